@@ -13,6 +13,7 @@ use Rattle.agg_types.specs.Kind.{kind_length, kind_named, takes_length, with_len
 use Rattle.agg_types.specs.Name.{is_name}
 use Rattle.agg_types.specs.declared.column.Col.{Col}
 use Rattle.agg_types.specs.declared.config.KeyKind.{KeyKind}
+use Rattle.agg_types.specs.declared.config.KeyKind.TheVariants.{Ip}
 use Rattle.agg_types.specs.declared.config.Shape.{Shape}
 use Rattle.agg_types.specs.declared.kind.KeyLength.{KeyLength}
 use Rattle.agg_types.specs.declared.kind.KeyLength.TheVariants.{Exactly, AtMost}
@@ -85,10 +86,14 @@ with_len kind words =
     if takes_length kind
     then option_map (with_length kind) (len_of (usual_len (kind_length kind)) words) else Some kind
 
+-- the kind that a type names; HAProxy from 3.2 on has `ipv4` for `ip`
+abbrev pub type_of : List ℕ → Option KeyKind
+type_of name = if bytes_eq name (codes "ipv4") then Some Ip else kind_named name
+
 -- the kind of keys
 abbrev pub kind_of : List (List ℕ) → Option KeyKind
 kind_of words =
-    option_and_then (λ kind. with_len kind words) (kind_named (behind_word (codes "type") words))
+    option_and_then (λ kind. with_len kind words) (type_of (behind_word (codes "type") words))
 
 -- a table of these parts
 abbrev pub shape : List ℕ → List (Col × ℕ) → KeyKind → ℕ → Shape
