@@ -7,13 +7,16 @@ ghost use Rattle.haproxy_import.specs.Found.{proxy_line, said, said_in, start, w
 ghost use Rattle.haproxy_import.specs.Found.{with_shape, with_table};
 ghost use Rattle.haproxy_import.specs.Tables.{shape_of};
 
-use crate::notes::{columns, left_out};
+use crate::notes::Notes;
 use crate::sections::{SectionKind, before_hash, opened};
 use crate::tables::{fits, plain_name, shape_of};
-use crate::values::{has_word, word_of};
+use crate::values::{has_word, value_of, word_of};
 use agg_types::{Config, Declared, MOST_PEERS, MOST_TABLES, Name, NoMemory, Shape};
 use std::alloc::Global;
 use std::marker::Model;
+
+/// Why a peer is left out whose name isn't plain.
+const ODD_NAME: &[u8] = b"a name with quotes, escapes or variables isn't read";
 
 /// What the lines so far declare. Contracts see it without its notes.
 #[derive(Drop)]
@@ -25,7 +28,7 @@ pub(crate) struct Found<'a> {
     unnamed: bool,
     peers: Declared<Name>,
     tables: Declared<Shape>,
-    notes: Vec<u8>,
+    notes: Notes<'a>,
 }
 
 impl<'a> Model for Found<'a> {
@@ -56,7 +59,7 @@ impl<'a> Found<'a> {
             unnamed: false,
             peers: Declared::new(alloc),
             tables: Declared::new(alloc),
-            notes: Vec::new(alloc),
+            notes: Notes::new(alloc),
         }
     }
 
@@ -65,12 +68,13 @@ impl<'a> Found<'a> {
     pub(crate) fn line(&mut self, line: &'a [u8]) -> Result<(), NoMemory>
         ensures { OnOk result (self.new ≡ behind self.old (said line.now)) }
     {
+        self.notes.next_line();
         let (first, rest) = word_of(before_hash(line));
         match opened(first) {
             Some(kind) => {
                 self.kind = kind;
                 self.section = word_of(rest).0;
-                Ok(())
+                self.notes.open(self.section)
             }
             None => self.statement(first, rest),
         }
@@ -90,6 +94,7 @@ impl<'a> Found<'a> {
     fn peers_line(&mut self, first: &'a [u8], rest: &'a [u8]) -> Result<(), NoMemory>
         ensures { OnOk result (self.new ≡ peers_line self.old first.now (words rest.now)) }
     {
+        self.notes.say(first, rest)?;
         let (name, rest) = word_of(rest);
         if first == b"peer".as_slice() || first == b"server".as_slice() {
             self.peer(name)
@@ -108,11 +113,7 @@ impl<'a> Found<'a> {
             return Ok(());
         }
         if !has_word(rest, b"peers") {
-            return left_out(
-                &mut self.notes,
-                self.section,
-                b"its stick-table names no peers",
-            );
+            return self.notes.not_pushed(self.section, rest);
         }
         self.table(self.section, rest)
     }
@@ -123,15 +124,15 @@ impl<'a> Found<'a> {
     {
         if !plain_name(name) {
             self.unnamed = true;
-            return left_out(&mut self.notes, name, b"the name isn't plain");
+            return self.notes.no_peer(name, ODD_NAME);
         }
         if self.peers.contains(name) {
             self.last = name;
             return Ok(());
         }
         if MOST_PEERS < self.peers.len() {
-            let why = format!(in self.alloc; "there are {MOST_PEERS} others")?;
-            return left_out(&mut self.notes, name, why.as_bytes());
+            let why = format!(in self.alloc; "{MOST_PEERS} stand before it, the most here")?;
+            return self.notes.no_peer(name, why.as_bytes());
         }
         self.last = name;
         self.peers.push(Name::copy(self.alloc, name)?)
@@ -141,32 +142,30 @@ impl<'a> Found<'a> {
         ensures { OnOk result
             (self.new ≡ with_table self.old (shape_of name.now (words rest.now))) }
     {
-        columns(&mut self.notes, name, rest)?;
         match shape_of(self.alloc, name, rest)? {
-            None => left_out(
-                &mut self.notes,
-                name,
-                b"its type, len or size isn't read here",
-            ),
-            Some(shape) => self.add(shape),
+            None => self.notes.unread(name, rest),
+            Some(shape) => self.add(shape, rest),
         }
     }
 
-    fn add(&mut self, shape: Shape) -> Result<(), NoMemory>
+    fn add(&mut self, shape: Shape, rest: &[u8]) -> Result<(), NoMemory>
         ensures { OnOk result (self.new ≡ with_shape self.old shape) }
     {
         let name = shape.name.as_slice();
         if !fits(&shape) {
-            return left_out(
-                &mut self.notes,
-                name,
-                b"the name isn't plain, or the keys too long",
-            );
+            return self.notes.unfit(&shape, rest);
         }
-        if self.tables.contains(name) || MOST_TABLES <= self.tables.len() {
-            let why = format!(in self.alloc; "there is one of this name, or {MOST_TABLES} in all")?;
-            return left_out(&mut self.notes, name, why.as_bytes());
+        if self.tables.contains(name) {
+            return tell_again(&mut self.notes, &self.tables, &shape, rest);
         }
+        if MOST_TABLES <= self.tables.len() {
+            return self.notes.full(&shape, rest);
+        }
+        let fleet = match self.kind {
+            SectionKind::Peers => self.section,
+            SectionKind::Proxy | SectionKind::Other => value_of(rest, b"peers"),
+        };
+        self.notes.table(&shape, rest, fleet)?;
         self.tables.push(shape)
     }
 
@@ -196,9 +195,27 @@ impl<'a> Found<'a> {
         }
     }
 
-    /// What isn't read, in comments.
-    pub(crate) fn notes(&self) -> &[u8] {
-        self.notes.as_slice()
+    /// What is told of the lines, all sections closed.
+    pub(crate) fn into_notes(self) -> Result<Notes<'a>, NoMemory> {
+        let mut notes = self.notes;
+        notes.open(b"")?;
+        Ok(notes)
+    }
+}
+
+// Tells of a table whose name one of these tables has.
+fn tell_again(
+    notes: &mut Notes<'_>,
+    tables: &Declared<Shape>,
+    shape: &Shape,
+    rest: &[u8],
+) -> Result<(), NoMemory> {
+    let Some(place) = tables.position(shape.name.as_slice()) else {
+        return Ok(());
+    };
+    match tables.get(place) {
+        None => Ok(()),
+        Some(kept) => notes.again(shape, rest, kept, place),
     }
 }
 

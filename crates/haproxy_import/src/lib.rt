@@ -10,10 +10,16 @@
 //! memory.
 #![tactic(auto)]
 
+mod columns;
+mod fleets;
 mod found;
 mod notes;
+mod page;
+mod pushes;
+mod reasons;
 mod same;
 mod sections;
+mod sizes;
 mod tables;
 mod text;
 mod values;

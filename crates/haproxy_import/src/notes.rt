@@ -1,89 +1,161 @@
-//! Comments on what isn't read. No clause says what they tell.
+//! What the comments tell, gathered line by line, and the lines of tables among them. No clause
+//! says what they tell.
 
-use crate::tables::{item_of, period_behind};
-use crate::values::word_of;
-use agg_types::{Col, NoMemory};
-use line_words::{next_part, next_word, place_of};
+use crate::columns::{Described, tell_blocks, tell_columns};
+use crate::fleets::{Said, Section};
+use crate::page::Page;
+use crate::pushes::{suggest, tell_target};
+use crate::reasons::{tell_again, tell_full, tell_unfit, tell_unread};
+use crate::sizes::tell_room;
+use crate::tables::shape_of;
+use crate::text::put_table;
+use agg_types::{NoMemory, Shape};
+use std::alloc::Global;
+use std::mem;
 
-/// Appends these texts, one behind the other.
-pub(crate) fn put(out: &mut Vec<u8>, texts: &[&[u8]]) -> Result<(), NoMemory> {
-    for text in texts {
-        out.extend_from_slice(text)?;
-    }
-    Ok(())
+/// What is told of the lines so far.
+#[derive(Drop)]
+pub(crate) struct Notes<'a> {
+    alloc: Global,
+    line: u64,
+    section: Section<'a>,
+    sections: Vec<Section<'a>>,
+    table_lines: Vec<u64>,
+    peers: Page,
+    tables: Page,
+    pushes: Page,
 }
 
-/// A peer or a table that is left out, and why.
-pub(crate) fn left_out(out: &mut Vec<u8>, name: &[u8], why: &[u8]) -> Result<(), NoMemory> {
-    put(out, &[b"# left out: ", name, b", ", why, b"\n"])
-}
-
-/// The columns of a table that aren't kept here, by what follows its name.
-pub(crate) fn columns(out: &mut Vec<u8>, table: &[u8], rest: &[u8]) -> Result<(), NoMemory> {
-    let mut left = rest;
-    'words: while let Some((word, others)) = next_word(left) {
-        if word == b"store".as_slice() {
-            list(out, table, rest, word_of(others).0)?;
-        }
-        left = others;
-    }
-    Ok(())
-}
-
-// A comma within parentheses leaves a period, which is no column of its own.
-fn list(out: &mut Vec<u8>, table: &[u8], line: &[u8], list: &[u8]) -> Result<(), NoMemory> {
-    let mut left = list;
-    let mut is_open = false;
-    'items: loop {
-        let (item, rest) = next_part(left, b',');
-        let opens = place_of(item, b'(').is_some();
-        let closes = item.last() == Some(&b')');
-        if opens || !closes || !is_open {
-            column(out, table, line, item)?;
-        }
-        is_open = !closes && (opens || is_open);
-        match rest {
-            None => return Ok(()),
-            Some(rest) => left = rest,
+impl<'a> Notes<'a> {
+    /// Nothing.
+    pub(crate) fn new(alloc: Global) -> Notes<'a> {
+        Notes {
+            alloc,
+            line: 0,
+            section: Section::new(alloc, 0, b""),
+            sections: Vec::new(alloc),
+            table_lines: Vec::new(alloc),
+            peers: Page::new(alloc),
+            tables: Page::new(alloc),
+            pushes: Page::new(alloc),
         }
     }
-}
 
-fn column(out: &mut Vec<u8>, table: &[u8], line: &[u8], item: &[u8]) -> Result<(), NoMemory> {
-    let name = match place_of(item, b'(') {
-        None => item,
-        Some(end) => &item[..end],
-    };
-    match Col::from_name(name) {
-        None => put(out, &[b"# table ", table, b": ", name, b" isn't kept\n"]),
-        Some(col) => period(out, table, line, col, item),
+    /// The next line of the file is read.
+    pub(crate) fn next_line(&mut self) {
+        self.line = self.line.saturating_add(1);
     }
-}
 
-// An item of a column that is known here. A table stores it with the first period that is read.
-fn period(
-    out: &mut Vec<u8>,
-    table: &[u8],
-    line: &[u8],
-    col: Col,
-    item: &[u8],
-) -> Result<(), NoMemory> {
-    let kept = period_behind(col, line);
-    let why: &[u8] = match item_of(col, item) {
-        None => b"its period isn't read here",
-        Some(period) if kept != Some(period) => b"another period stands before it",
-        Some(_) => return Ok(()),
-    };
-    put(
-        out,
-        &[
-            b"# table ",
-            table,
-            b": ",
-            item,
-            b" isn't kept, ",
-            why,
-            b"\n",
-        ],
-    )
+    /// The line opens a section of this name, or the file ends.
+    pub(crate) fn open(&mut self, name: &'a [u8]) -> Result<(), NoMemory> {
+        let next = Section::new(self.alloc, self.line, name);
+        let section = mem::replace(&mut self.section, next);
+        if !section.is_empty() {
+            self.sections.push(section)?;
+        }
+        Ok(())
+    }
+
+    /// The line stands in a `peers` section.
+    pub(crate) fn say(&mut self, first: &'a [u8], rest: &'a [u8]) -> Result<(), NoMemory> {
+        self.section.push(Said::new(self.line, first, rest))
+    }
+
+    /// The line's peer is left out.
+    pub(crate) fn no_peer(&mut self, name: &[u8], why: &[u8]) -> Result<(), NoMemory> {
+        self.peers
+            .comment(self.line, &[b"peer ", name, b" is left out: ", why])
+    }
+
+    fn described<'b>(&self, name: &'b [u8], rest: &'b [u8]) -> Described<'b> {
+        Described {
+            line: self.line,
+            name,
+            rest,
+        }
+    }
+
+    /// The line's stick table isn't pushed.
+    pub(crate) fn not_pushed(&mut self, name: &[u8], rest: &[u8]) -> Result<(), NoMemory> {
+        let why = b" is left out: its stick-table names no peers section, so no proxy pushes it";
+        self.tables.comment(self.line, &[b"table ", name, why])?;
+        match shape_of(self.alloc, name, rest)? {
+            None => Ok(()),
+            Some(shape) => {
+                self.tables.put(&[b"#"])?;
+                put_table(&mut self.tables, &shape)
+            }
+        }
+    }
+
+    /// The line's table isn't read.
+    pub(crate) fn unread(&mut self, name: &[u8], rest: &[u8]) -> Result<(), NoMemory> {
+        let table = self.described(name, rest);
+        tell_unread(&mut self.tables, table)
+    }
+
+    /// The line's table may not be.
+    pub(crate) fn unfit(&mut self, shape: &Shape, rest: &[u8]) -> Result<(), NoMemory> {
+        let table = self.described(shape.name.as_slice(), rest);
+        tell_unfit(&mut self.tables, table, shape)
+    }
+
+    /// The line's table would be one too many.
+    pub(crate) fn full(&mut self, shape: &Shape, rest: &[u8]) -> Result<(), NoMemory> {
+        let table = self.described(shape.name.as_slice(), rest);
+        tell_full(&mut self.tables, table)
+    }
+
+    /// Another table, at this place, has the name of the line's.
+    pub(crate) fn again(
+        &mut self,
+        shape: &Shape,
+        rest: &[u8],
+        kept: &Shape,
+        place: usize,
+    ) -> Result<(), NoMemory> {
+        let table = self.described(shape.name.as_slice(), rest);
+        let line = self.table_lines.get(place).copied().unwrap_or(0);
+        tell_again(&mut self.tables, table, shape, kept, line)
+    }
+
+    /// The line's table is taken; `fleet` is the `peers` section that it names.
+    pub(crate) fn table(
+        &mut self,
+        shape: &Shape,
+        rest: &[u8],
+        fleet: &[u8],
+    ) -> Result<(), NoMemory> {
+        let table = self.described(shape.name.as_slice(), rest);
+        let is_whole = tell_columns(&mut self.tables, table)?;
+        tell_blocks(&mut self.tables, table)?;
+        tell_room(&mut self.tables, table, shape, is_whole)?;
+        if is_whole {
+            tell_target(&mut self.tables, table, shape)?;
+        }
+        put_table(&mut self.tables, shape)?;
+        suggest(&mut self.pushes, table, shape, fleet)?;
+        self.table_lines.push(self.line)?;
+        Ok(())
+    }
+
+    /// The `peers` sections that are closed.
+    pub(crate) fn sections(&self) -> &[Section<'a>] {
+        self.sections.as_slice()
+    }
+
+    /// Comments on peers.
+    pub(crate) fn peers(&self) -> &[u8] {
+        self.peers.as_slice()
+    }
+
+    /// The lines of tables, and comments on them.
+    pub(crate) fn tables(&self) -> &[u8] {
+        self.tables.as_slice()
+    }
+
+    /// Comments on filters that may be pushed.
+    pub(crate) fn pushes(&self) -> &[u8] {
+        self.pushes.as_slice()
+    }
 }

@@ -64,7 +64,8 @@ fn same_tables(some: &[Shape], others: &[Shape]) -> bool
     }
 }
 
-fn same_table(one: &Shape, other: &Shape) -> bool
+/// Whether two tables are the same.
+pub(crate) fn same_table(one: &Shape, other: &Shape) -> bool
     ensures { result ≡ same_table one.now other.now }
 {
     same_head(one, other)

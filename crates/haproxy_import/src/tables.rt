@@ -32,15 +32,15 @@ pub(crate) fn shape_of(alloc: Global, name: &[u8], line: &[u8]) -> Result<Option
     }))
 }
 
-// The kind of keys.
-fn kind_of(line: &[u8]) -> Option<KeyKind>
+/// The kind of keys; none where the type or the length isn't read here.
+pub(crate) fn kind_of(line: &[u8]) -> Option<KeyKind>
     ensures { result ≡ kind_of (words line.now) }
 {
     with_len(type_of(value_of(line, b"type"))?, line)
 }
 
-// The kind that a type names. HAProxy from 3.2 on has `ipv4` for `ip`.
-fn type_of(name: &[u8]) -> Option<KeyKind>
+/// The kind that a type names. HAProxy from 3.2 on has `ipv4` for `ip`.
+pub(crate) fn type_of(name: &[u8]) -> Option<KeyKind>
     ensures { result ≡ type_of name.now }
 {
     if name == b"ipv4".as_slice() {

@@ -1,74 +1,109 @@
 //! A configuration as text. No clause says what it is: `import` reads it again.
 
-use crate::notes::put;
-use agg_types::limits::LARGEST_SIZE;
+use crate::fleets::{line_of, tell_sections};
+use crate::notes::Notes;
+use crate::page::Page;
+use crate::{pushes, sizes};
 use agg_types::{Col, Config, KeyKind, NoMemory, Shape};
 use std::alloc::Global;
 
 const HEAD: &[u8] =
-    b"# From a haproxy.cfg. Of several peers the last that is kept is taken for the collector:\n\
-# if it is a proxy, write it as a peer, give the collector's name here, and name it in each\n\
-# proxy's peers section. Add a peer line for each further proxy, then filters and ranked lists.\n";
+    b"# From a haproxy.cfg, whose lines the comments name. Add a peer line for each further\n\
+# proxy, then filters and ranked lists.\n";
 
-/// The lines of a configuration without filters and ranked lists, behind these comments.
-pub(crate) fn text_of(alloc: Global, config: &Config, notes: &[u8]) -> Result<Vec<u8>, NoMemory> {
-    let mut out = Vec::new(alloc);
-    put(&mut out, &[HEAD, b"name ", config.me.as_slice(), b"\n"])?;
-    for peer in config.peers.as_slice() {
-        put(&mut out, &[b"peer ", peer.as_slice(), b"\n"])?;
-    }
-    put(&mut out, &[notes])?;
-    for table in config.tables.as_slice() {
-        put_table(alloc, &mut out, table)?;
-    }
-    Ok(out)
+const NO_PEERS: &[u8] =
+    b"# WARNING: no proxy is named by a peer or server line of a peers section: add peer lines.\n";
+
+const NO_TABLES: &[u8] =
+    b"# WARNING: nothing to follow: no stick-table with peers, no table in a peers section.\n";
+
+const NO_COLLECTOR: &[u8] =
+    b"# The file names no collector: give its name here, and name it in each peers section.\n";
+
+/// Behind the name of the last peer.
+const TAKEN: &[u8] = b", the last peer, is taken for the collector. If it is a proxy, write a\n\
+# peer line for it, give the collector's name here, and let each proxy name that and itself\n\
+# alone.";
+
+/// The lines of a configuration without filters and ranked lists, with comments.
+pub(crate) fn text_of(
+    alloc: Global,
+    config: &Config,
+    notes: &Notes<'_>,
+) -> Result<Vec<u8>, NoMemory> {
+    let mut page = Page::new(alloc);
+    page.put(&[HEAD])?;
+    put_peers(&mut page, config, notes)?;
+    put_tables(&mut page, config, notes)?;
+    Ok(page.into_text())
 }
 
-fn put_table(alloc: Global, out: &mut Vec<u8>, table: &Shape) -> Result<(), NoMemory> {
-    let name = table.name.as_slice();
-    if table.size == LARGEST_SIZE {
-        put(
-            out,
-            &[
-                b"# table ",
-                name,
-                b": rows beyond the greatest size aren't kept\n",
-            ],
-        )?;
+fn put_peers(page: &mut Page, config: &Config, notes: &Notes<'_>) -> Result<(), NoMemory> {
+    let me = config.me.as_slice();
+    if config.peers.is_empty() {
+        page.put(&[NO_PEERS])?;
     }
-    put(out, &[b"table ", name, b" type "])?;
-    put_kind(alloc, out, table.kind)?;
-    put(out, &[b" size "])?;
-    put_number(alloc, out, table.size)?;
+    tell_sections(page, notes.sections(), me)?;
+    page.put(&[notes.peers()])?;
+    put_me(page, notes, me)?;
+    for peer in config.peers.as_slice() {
+        page.put(&[b"peer ", peer.as_slice(), b"\n"])?;
+    }
+    Ok(())
+}
+
+fn put_me(page: &mut Page, notes: &Notes<'_>, me: &[u8]) -> Result<(), NoMemory> {
+    match line_of(notes.sections(), me) {
+        None => page.put(&[NO_COLLECTOR])?,
+        Some(line) => page.comment(line, &[me, TAKEN])?,
+    }
+    page.put(&[b"name ", me, b"\n"])
+}
+
+fn put_tables(page: &mut Page, config: &Config, notes: &Notes<'_>) -> Result<(), NoMemory> {
+    let head = if config.tables.is_empty() {
+        NO_TABLES
+    } else {
+        sizes::RULE
+    };
+    page.put(&[head, notes.tables()])?;
+    if notes.pushes().is_empty() {
+        Ok(())
+    } else {
+        page.put(&[pushes::HEAD, notes.pushes()])
+    }
+}
+
+/// Appends a table's line.
+pub(crate) fn put_table(page: &mut Page, table: &Shape) -> Result<(), NoMemory> {
+    page.put(&[b"table ", table.name.as_slice(), b" type "])?;
+    put_kind(page, table.kind)?;
+    page.put(&[b" size "])?;
+    page.number(table.size)?;
     let mut between: &[u8] = b" store ";
     for (col, period) in table.cols.as_slice() {
-        put(out, &[between])?;
-        put_column(alloc, out, *col, *period)?;
+        page.put(&[between])?;
+        put_column(page, *col, *period)?;
         between = b",";
     }
-    put(out, &[b"\n"])
+    page.put(&[b"\n"])
 }
 
-fn put_kind(alloc: Global, out: &mut Vec<u8>, kind: KeyKind) -> Result<(), NoMemory> {
-    put(out, &[kind.name().as_bytes()])?;
+fn put_kind(page: &mut Page, kind: KeyKind) -> Result<(), NoMemory> {
+    page.put(&[kind.name().as_bytes()])?;
     let Some(len) = kind.given_length() else {
         return Ok(());
     };
-    put(out, &[b" len "])?;
-    put_number(alloc, out, len)
+    page.put(&[b" len "])?;
+    page.number(len)
 }
 
-fn put_column(alloc: Global, out: &mut Vec<u8>, col: Col, period: u32) -> Result<(), NoMemory> {
-    put(out, &[col.name().as_bytes()])?;
+fn put_column(page: &mut Page, col: Col, period: u32) -> Result<(), NoMemory> {
+    page.put(&[col.name().as_bytes()])?;
     if !col.is_rate() {
         return Ok(());
     }
-    put(out, &[b"("])?;
-    put_number(alloc, out, u64::from(period))?;
-    put(out, &[b")"])
-}
-
-fn put_number(alloc: Global, out: &mut Vec<u8>, number: u64) -> Result<(), NoMemory> {
-    let digits = format!(in alloc; "{number}")?;
-    put(out, &[digits.as_bytes()])
+    page.put(&[b"("])?;
+    page.number(u64::from(period))?;
+    page.put(&[b")"])
 }

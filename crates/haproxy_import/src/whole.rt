@@ -43,24 +43,16 @@ pub fn import(alloc: Global, text: &[u8]) -> Result<Vec<u8>, ImportFault>
 }
 
 // The same of a text whose words only spaces separate.
+#[tactic(auto, unfolding(crate::specs::Found::declared))]
 fn from_spaced(alloc: Global, text: &[u8]) -> Result<Vec<u8>, ImportFault>
     ensures { IfOk result (λ written. Reads written.items (declared text.now)) }
 {
-    let mut notes = Vec::new(alloc);
-    let config = declared(alloc, text, &mut notes)?;
-    let written = text_of(alloc, &config, notes.as_slice())?;
+    let found = found_in(alloc, text)?;
+    let config = found.config()?;
+    let notes = found.into_notes()?;
+    let written = text_of(alloc, &config, &notes)?;
     confirm(alloc, written.as_slice(), &config)?;
     Ok(written)
-}
-
-// The configuration of such a text; its notes go behind others.
-#[tactic(auto, unfolding(crate::specs::Found::declared))]
-fn declared(alloc: Global, text: &[u8], notes: &mut Vec<u8>) -> Result<Config, NoMemory>
-    ensures { IfOk result (λ config. config ≡ declared text.now) }
-{
-    let found = found_in(alloc, text)?;
-    notes.extend_from_slice(found.notes())?;
-    found.config()
 }
 
 // Reads what was written, and compares it.

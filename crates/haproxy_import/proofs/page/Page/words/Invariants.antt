@@ -1,5 +1,5 @@
 use Rattle.std.proofs.Common.{length}
-use Rattle.haproxy_import.proofs.notes.columns.Given as goal
+use Rattle.haproxy_import.proofs.page.Page.words.Given as goal
 
 abbrev pub decreases-words : goal.decreases-words
 decreases-words l = length l.left

@@ -1,0 +1,86 @@
+//! Text that is written piece by piece.
+
+use agg_types::NoMemory;
+use line_words::next_word;
+use std::alloc::Global;
+
+/// What is written so far.
+#[derive(Drop)]
+pub(crate) struct Page {
+    alloc: Global,
+    text: Vec<u8>,
+}
+
+impl Page {
+    /// Nothing.
+    pub(crate) fn new(alloc: Global) -> Page {
+        Page {
+            alloc,
+            text: Vec::new(alloc),
+        }
+    }
+
+    /// How many bytes were written.
+    pub(crate) fn len(&self) -> usize {
+        self.text.len()
+    }
+
+    /// What was written.
+    pub(crate) fn as_slice(&self) -> &[u8] {
+        self.text.as_slice()
+    }
+
+    /// What was written.
+    pub(crate) fn into_text(self) -> Vec<u8> {
+        self.text
+    }
+
+    /// Appends these texts, one behind the other.
+    pub(crate) fn put(&mut self, texts: &[&[u8]]) -> Result<(), NoMemory> {
+        for text in texts {
+            self.text.extend_from_slice(text)?;
+        }
+        Ok(())
+    }
+
+    /// Appends a number.
+    pub(crate) fn number(&mut self, number: u64) -> Result<(), NoMemory> {
+        let digits = format!(in self.alloc; "{number}")?;
+        self.put(&[digits.as_bytes()])
+    }
+
+    /// Appends a time of so many ms, as HAProxy reads it.
+    pub(crate) fn time(&mut self, ms: u64) -> Result<(), NoMemory> {
+        if ms % 1000 == 0 {
+            self.number(ms / 1000)?;
+            self.put(&[b"s"])
+        } else {
+            self.number(ms)?;
+            self.put(&[b"ms"])
+        }
+    }
+
+    /// Begins a comment on a line of the file.
+    pub(crate) fn begin(&mut self, line: u64) -> Result<(), NoMemory> {
+        self.put(&[b"# line "])?;
+        self.number(line)?;
+        self.put(&[b": "])
+    }
+
+    /// Appends a comment of these texts on a line of the file.
+    pub(crate) fn comment(&mut self, line: u64, texts: &[&[u8]]) -> Result<(), NoMemory> {
+        self.begin(line)?;
+        self.put(texts)?;
+        self.put(&[b"\n"])
+    }
+
+    /// Appends the words of a line, a space before each.
+    pub(crate) fn words(&mut self, line: &[u8]) -> Result<(), NoMemory> {
+        let mut left = line;
+        'words: while let Some((word, rest)) = next_word(left) {
+            self.put(&[b" ", word])?;
+            left = rest;
+        }
+        Ok(())
+    }
+}
