@@ -20,6 +20,7 @@ mod worked;
 use crate::both::deeds::Deed;
 use crate::both::drawn::Draw;
 use crate::both::fleet::{FEW, MANY, OF_SECONDS, Pair};
+use crate::both::worked::Worked;
 use anyhow::Result;
 use std::alloc::Global;
 
@@ -56,8 +57,8 @@ fn tell_compared(rt: &impl Print, pair: &Pair) -> Result<()> {
 fn tell_counts(rt: &impl Print, pair: &Pair) -> Result<()> {
     let counts = pair.counts;
     println!(rt;
-        "  values read {}, updates dropped {}; of {} runs {} flips known",
-        counts.read, counts.dropped, counts.told, counts.flips
+        "  values read {}, updates dropped {}; {} flips, known of {} runs",
+        counts.read, counts.dropped, counts.flips, counts.told
     )?;
     Ok(())
 }
@@ -74,12 +75,12 @@ fn end(rt: &impl Print, alloc: Global, name: &str, pair: &mut Pair, often: bool)
 }
 
 /// Worked events, one after the other, which are compared behind each run or only at their end.
-fn play(rt: &impl Print, alloc: Global, name: &str, often: bool, deeds: &[Deed]) -> Result<()> {
-    let mut pair = opened(alloc, FEW, often)?;
-    for deed in deeds {
+fn play(rt: &impl Print, alloc: Global, list: &Worked, often: bool) -> Result<()> {
+    let mut pair = opened(alloc, list.fleet, often)?;
+    for deed in list.deeds {
         pair.happen(alloc, *deed)?;
     }
-    end(rt, alloc, name, &mut pair, often)
+    end(rt, alloc, list.name, &mut pair, often)
 }
 
 /// Events that are drawn, with lives and moments that are near, or far from one another.
@@ -144,20 +145,18 @@ fn of_eighty(rt: &impl Print, alloc: Global, often: bool) -> Result<()> {
 
 /// Takes the lists of which each allocation fails in turn.
 pub fn run_again(rt: &impl Print, alloc: Global) -> Result<()> {
-    play(rt, alloc, "reconnect", false, worked::RECONNECT)?;
-    play(rt, alloc, "size limit", false, worked::SIZE_LIMIT)?;
-    play(rt, alloc, "drops", false, worked::DROPS)?;
+    for list in [worked::RECONNECT, worked::SIZE_LIMIT, worked::DROPS] {
+        play(rt, alloc, &list, false)?;
+    }
     draw(rt, alloc, true, false)?;
     of_eighty(rt, alloc, false)
 }
 
 /// Takes all lists.
 pub fn run(rt: &impl Print, alloc: Global) -> Result<()> {
-    play(rt, alloc, "reconnect", true, worked::RECONNECT)?;
-    play(rt, alloc, "size limit", true, worked::SIZE_LIMIT)?;
-    play(rt, alloc, "lives", true, worked::LIVES)?;
-    play(rt, alloc, "clears", true, worked::CLEARS)?;
-    play(rt, alloc, "drops", true, worked::DROPS)?;
+    for list in worked::ALL {
+        play(rt, alloc, &list, true)?;
+    }
     draw(rt, alloc, true, true)?;
     draw(rt, alloc, false, true)?;
     falling(rt, alloc)?;
