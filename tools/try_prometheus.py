@@ -3,20 +3,28 @@
 
     try_prometheus.py [--collector crates/aggregator/out/aggregator] [--minutes 10]
 
-It wants Debian's haproxy and prometheus. It starts `aggregator listen --http` with examples/acting.conf, haproxy
-twice with examples/acting.cfg, and prometheus with the rules of examples/alerts.yml. A client exceeds the fleet's
-limit over both proxies over and over: ClientsOverTheLimit must fire, and no other alert. Of all scrapes in these
-minutes none may have failed, and what is counted may only have grown. A proxy that is ended then fires ProxyAway. The
-last line counts passed and failed; the status is 1 where one failed.
+It wants Debian's haproxy and prometheus. First promtool checks the rules of examples/alerts.yml, that they fire on
+what they are for (tools/lib/alerts_test.yml), and the collector's figures. Each runbook must be a section of its page.
+
+It starts `aggregator listen --http` with examples/acting.conf, haproxy twice with examples/acting.cfg, and prometheus
+with these rules. Prometheus must take each query of examples/grafana.json, and each figure in it be one that is told.
+A client exceeds the fleet's limit over both proxies over and over: ClientsOverTheLimit must fire, and no other alert
+but that the collector began. Of all scrapes in these minutes none may have failed, and what is counted may only have
+grown. A proxy that is ended then fires ProxyAway. The last line counts passed and failed; the status is 1 where one
+failed.
 """
 
 import argparse
 import json
 import pathlib
+import re
+import shutil
 import subprocess
+import sys
 import tempfile
 import threading
 import time
+import urllib.error
 import urllib.parse
 import urllib.request
 
@@ -37,13 +45,76 @@ scrape_configs:
 """
 
 
+ALERTS = REPOSITORY / "examples/alerts.yml"
+DASHBOARD = REPOSITORY / "examples/grafana.json"
+# What fires beside what is tried: the collector has just begun.
+BESIDE = {"CollectorRestarted"}
+
+
+def promtool(*words, text=None):
+    """What promtool finds wrong, or nothing."""
+    ran = subprocess.run(["promtool", *words], input=text, capture_output=True, text=True, timeout=60)
+    said = (ran.stdout + ran.stderr).strip()
+    return said if ran.returncode or (words[0] == "check" and words[1] == "metrics" and said) else ""
+
+
+def missing_runbooks():
+    """The runbooks of alerts that aren't sections of a page."""
+    missing = []
+    for page, anchor in re.findall(r'runbook: "([^"#]+)#?([^"]*)"', ALERTS.read_text()):
+        heads = re.findall(r"^#+ (.*)$", (REPOSITORY / page).read_text(), re.MULTILINE)
+        anchors = {re.sub(r"[^\w -]", "", head).strip().lower().replace(" ", "-") for head in heads}
+        if anchor and anchor not in anchors:
+            missing.append(f"{page}#{anchor}")
+    return ", ".join(sorted(set(missing)))
+
+
+def expressions():
+    """The queries of the dashboard, with something for each of its variables."""
+    found = []
+
+    def walk(part):
+        if isinstance(part, dict):
+            found.extend(text for name, text in part.items() if name == "expr")
+            part = list(part.values())
+        for inner in part if isinstance(part, list) else []:
+            walk(inner)
+
+    walk(json.loads(DASHBOARD.read_text()))
+    return [text.replace("$__rate_interval", "1m").replace("$instance", ".*").replace("$peer", ".*") for text in found]
+
+
+def wrong_queries(prometheus):
+    """The dashboard's queries that Prometheus refuses."""
+    wrong = []
+    for query in expressions():
+        try:
+            prometheus.ask("query", query=query)
+        except urllib.error.HTTPError as fault:
+            wrong.append(f"{query}: {fault.read().decode()}")
+    return "; ".join(wrong)
+
+
+def figures_of(port):
+    """What a collector tells Prometheus."""
+    with urllib.request.urlopen(f"http://127.0.0.1:{port}/metrics", timeout=10) as answer:
+        return answer.read().decode()
+
+
+def untold(port):
+    """The figures of the dashboard and of the alerts that no collector tells."""
+    told = set(re.findall(r"^# TYPE (\S+)", figures_of(port), re.MULTILINE))
+    asked = set(re.findall(r"\b(?:sesamejoist|process)_\w+", " ".join(expressions()) + ALERTS.read_text()))
+    return " ".join(sorted(asked - told))
+
+
 class Prometheus:
     """A Prometheus that scrapes one address each second."""
 
     def __init__(self, folder, target):
         self.port, = free_ports(1)
         settings = pathlib.Path(folder) / "prometheus.yml"
-        settings.write_text(SETTINGS.format(rules=REPOSITORY / "examples/alerts.yml", port=target))
+        settings.write_text(SETTINGS.format(rules=ALERTS, port=target))
         words = ["prometheus", f"--config.file={settings}", f"--storage.tsdb.path={folder}/data",
                  f"--web.listen-address=127.0.0.1:{self.port}", "--log.level=warn"]
         self.process = subprocess.Popen(words, stdout=subprocess.DEVNULL, stderr=subprocess.DEVNULL)
@@ -116,7 +187,7 @@ def watch(report, prometheus, collector, proxies, minutes):
     report.check("no scrape failed, and counters only grew", 5, lambda: wrong_scrapes(prometheus, int(minutes) or 1))
     report.check("it counts what the collector counts", 5,
                  lambda: differ(prometheus, collector))
-    report.check("no other alert fires", 5, lambda: prometheus.firing() - {"ClientsOverTheLimit"} or "")
+    report.check("no other alert fires", 5, lambda: prometheus.firing() - BESIDE - {"ClientsOverTheLimit"} or "")
     proxies.pop().stop()
     report.check("ProxyAway fires once a proxy was away for two minutes", 150,
                  lambda: missing(prometheus, "ProxyAway"))
@@ -135,15 +206,22 @@ def main():
     words.add_argument("--collector", default=COLLECTOR)
     words.add_argument("--minutes", type=float, default=10)
     options = words.parse_args()
-    wants(HAPROXY, "prometheus", program=options.collector)
+    wants(HAPROXY, "prometheus", "promtool", program=options.collector)
     ends_cleanly()
     report = Report()
+    report.check("promtool takes the rules", 5, lambda: promtool("check", "rules", str(ALERTS)))
+    report.check("the rules fire on what they are for", 5,
+                 lambda: promtool("test", "rules", str(REPOSITORY / "tools/lib/alerts_test.yml")))
+    report.check("each runbook is a section of its page", 5, missing_runbooks)
     with tempfile.TemporaryDirectory() as folder:
         peers, admin, web = free_ports(3)
         collector = Collector(options.collector, peers, admin, config=ACTING, options=["--http", f"127.0.0.1:{web}"])
         proxies = [Proxy(name, peers, folder, config=ACTING_PROXY) for name in ("lb1", "lb2")]
         prometheus = Prometheus(folder, web)
         try:
+            report.check("promtool takes the figures", 5, lambda: promtool("check", "metrics", text=figures_of(web)))
+            report.check("each figure of the alerts and the dashboard is told", 5, lambda: untold(web))
+            report.check("Prometheus takes the dashboard's queries", 5, lambda: wrong_queries(prometheus))
             watch(report, prometheus, collector, proxies, options.minutes)
         finally:
             prometheus.stop()
