@@ -46,7 +46,8 @@ import time
 from lib.collector import COLLECTOR, REPOSITORY, free_ports
 from lib.needs import ends_cleanly, wants
 
-PAGES = ["README.md"] + [f"docs/{name}.md" for name in ("OPERATIONS", "CONFIGURATION", "COMMANDS", "ACTING", "REPLAY")]
+NAMES = ("OPERATIONS", "CONFIGURATION", "COMMANDS", "ACTING", "HTTP", "REPLAY")
+PAGES = ["README.md", *(f"docs/{name}.md" for name in NAMES)]
 PRELUDE = pathlib.Path(__file__).with_name("lib") / "pages.sh"
 COMMENT = re.compile(r"<!--\s*(.*?)\s*-->")
 PATIENCE = 15  # s for a question whose answer comes a moment later
