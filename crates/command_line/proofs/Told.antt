@@ -12,10 +12,11 @@ use Rattle.clap.specs.declared.parser.matches.ArgMatches.{ArgMatches}
 use Rattle.clap.specs.declared.parser.matches.ArgMatches.TheViews.{out-SubCommand}
 use Rattle.clap.specs.declared.parser.matches.SubCommand.{SubCommand}
 use Rattle.command_line.specs.Asked.{IsNoJob, IsRefused, SaysNoAddress, SaysNoAdmin, SaysNoChoice}
-use Rattle.command_line.specs.Asked.{program}
+use Rattle.command_line.specs.Asked.{SaysNoHost, program}
 use Rattle.command_line.specs.declared.usage.Usage.{Usage}
 use Rattle.command_line.specs.declared.usage.Usage.TheVariants.{Words, BadAddress, NoAdmin}
-use Rattle.command_line.specs.declared.usage.Usage.TheVariants.{BadUnknownPeers, NoMemory}
+use Rattle.command_line.specs.declared.usage.Usage.TheVariants.{BadUnknownPeers, BadHost}
+use Rattle.command_line.specs.declared.usage.Usage.TheVariants.{NoMemory}
 use Rattle.command_line.proofs.Commands.{EntersCommand, is_plain, is_read}
 
 module _ {Z : Type 0} where
@@ -50,6 +51,7 @@ is_refused words found (Words error) taken is none = absurd none
 is_refused words found BadAddress taken is none = (taken, subst SaysNoAddress is none)
 is_refused words found NoAdmin taken is none = (taken, subst SaysNoAdmin is none)
 is_refused words found BadUnknownPeers taken is none = (taken, subst SaysNoChoice is none)
+is_refused words found BadHost taken is none = (taken, subst SaysNoHost is none)
 is_refused words found NoMemory taken is none = tt
 
 -- an error that clap has for the words, as it is reported
@@ -66,6 +68,7 @@ told_refused words app error (Words told) is kinds (same, other) =
 told_refused words app error BadAddress is kinds told = absurd told
 told_refused words app error NoAdmin is kinds told = absurd told
 told_refused words app error BadUnknownPeers is kinds told = absurd told
+told_refused words app error BadHost is kinds told = absurd told
 told_refused words app error NoMemory is kinds told = tt
 
 -- what holds of a fault that a result has

@@ -11,6 +11,7 @@ use Rattle.clap.specs.declared.builder.command.Command.{Command}
 use Rattle.clap.specs.declared.builder.command.Command.TheViews.{out-Command as fields_of}
 use Rattle.clap.specs.declared.builder.action.ArgAction.TheVariants.{Append, Set}
 use Rattle.command_line.specs.Address.{Parts, address_of, parts_of}
+use Rattle.command_line.specs.Hosts.{hosts_of}
 use Rattle.command_line.specs.Networks.{network_parts, networks_of}
 use Rattle.command_line.specs.declared.job.Endpoints.{Endpoints}
 use Rattle.command_line.specs.declared.job.Job.{Job}
@@ -19,7 +20,8 @@ use Rattle.command_line.specs.declared.job.UnknownPeers.{UnknownPeers}
 use Rattle.command_line.specs.declared.job.UnknownPeers.TheVariants.{Refuse, Wait}
 use Rattle.command_line.specs.declared.usage.Usage.{Usage}
 use Rattle.command_line.specs.declared.usage.Usage.TheVariants.{Words, BadAddress, NoAdmin}
-use Rattle.command_line.specs.declared.usage.Usage.TheVariants.{BadUnknownPeers, NoMemory}
+use Rattle.command_line.specs.declared.usage.Usage.TheVariants.{BadUnknownPeers, BadHost}
+use Rattle.command_line.specs.declared.usage.Usage.TheVariants.{NoMemory}
 
 -- no option of the command is one of its subcommands too
 abbrev pub IsLocal : Command → Type 0
@@ -54,13 +56,13 @@ abbrev pub check : App
 check = with_rule (new_app (codes "check")) (value_option (codes "config"))
 
 -- `listen --config FILE --peers ADDRESS --admin ADDRESS --admin-socket PATH --http ADDRESS
--- --from NETWORK .. --unknown-peers WHAT`
+-- --from NETWORK .. --unknown-peers WHAT --http-host NAME ..`
 abbrev pub listen : App
-listen = with_rule (with_rule (with_rule (with_rule (with_rule (with_rule (with_rule
+listen = with_rule (with_rule (with_rule (with_rule (with_rule (with_rule (with_rule (with_rule
     (new_app (codes "listen")) (value_option (codes "config"))) (needed_option (codes "peers")))
     (value_option (codes "admin"))) (value_option (codes "admin-socket")))
     (value_option (codes "http"))) (many_option (codes "from")))
-    (value_option (codes "unknown-peers"))
+    (value_option (codes "unknown-peers"))) (many_option (codes "http-host"))
 
 -- the program without its commands; it tells its version
 abbrev pub bare : App
@@ -112,12 +114,16 @@ choice_of text =
 abbrev pub choice_in : List Row → Option UnknownPeers
 choice_in rows = option_map_or choice_of (first_of (codes "unknown-peers") rows) (Some Refuse)
 
+-- the names of hosts that an option of a command says: none where it isn't there
+abbrev pub hosts_in : Text → List Row → Option (List Text)
+hosts_in name rows = option_map_or hosts_of (all_of name rows) (Some [])
+
 -- the options name this file of a configuration, or none
 abbrev pub SaysFile : List Row → Option (Bor Text) → Type 0
 SaysFile rows config = option_map (λ name. name.now) config ≡ first_of (codes "config") rows
 
--- the options of `listen` say these addresses, one for operators among them, and this of unknown
--- peers
+-- the options of `listen` say these addresses, one for operators among them, this of unknown peers,
+-- and these names of hosts
 pub record SaysAddresses (rows : List Row) (addresses : Endpoints) : Type 0 where
   pub peers : address_in (codes "peers") rows ≡ Some (parts_of addresses.peers)
   pub admin : address_if (codes "admin") rows ≡ Some (option_map parts_of addresses.admin)
@@ -127,6 +133,8 @@ pub record SaysAddresses (rows : List Row) (addresses : Endpoints) : Type 0 wher
   pub http : address_if (codes "http") rows ≡ Some (option_map parts_of addresses.http)
   pub from : networks_in (codes "from") rows ≡ Some (map network_parts addresses.from.items)
   pub unknown_peers : choice_in rows ≡ Some addresses.unknown_peers
+  pub http_hosts : hosts_in (codes "http-host") rows
+      ≡ Some (map string_bytes addresses.http_hosts.items)
 
 -- a command with its options asks for this job
 abbrev pub IsJob : Option (Text × List Row) → Job → Type 0
@@ -165,13 +173,20 @@ abbrev pub SaysNoChoice : Option (Text × List Row) → Type 0
 SaysNoChoice None = ⊥
 SaysNoChoice (Some command) = (command.0 ≡ codes "listen") × (choice_in command.1 ≡ None)
 
--- why a command that clap takes is no job: an option says no address, or nothing of unknown peers,
--- operators have none, or an allocation failed
+-- a `listen` where an option for names of hosts says none
+abbrev pub SaysNoHost : Option (Text × List Row) → Type 0
+SaysNoHost None = ⊥
+SaysNoHost (Some command) = (command.0 ≡ codes "listen")
+    × (hosts_in (codes "http-host") command.1 ≡ None)
+
+-- why a command that clap takes is no job: an option says no address, nothing of unknown peers, or
+-- no host's name, operators have no place, or an allocation failed
 abbrev pub IsNoJob : Option (Text × List Row) → Usage → Type 0
 IsNoJob command (Words error) = ⊥
 IsNoJob command BadAddress = SaysNoAddress command
 IsNoJob command NoAdmin = SaysNoAdmin command
 IsNoJob command BadUnknownPeers = SaysNoChoice command
+IsNoJob command BadHost = SaysNoHost command
 IsNoJob command NoMemory = ⊤
 
 -- why the words ask for no job: an error of a kind that clap has for them, or what is wrong with a
@@ -184,4 +199,6 @@ IsRefused words NoAdmin =
     (fault_of program words ≡ []) × SaysNoAdmin (subcommand_of program words)
 IsRefused words BadUnknownPeers =
     (fault_of program words ≡ []) × SaysNoChoice (subcommand_of program words)
+IsRefused words BadHost =
+    (fault_of program words ≡ []) × SaysNoHost (subcommand_of program words)
 IsRefused words NoMemory = ⊤

@@ -117,6 +117,22 @@ pub record TakesHttp (self peers admin http : Text) : Type 0 where
   pub http_is : text_in (codes "http")
       (subcommand_of program (http_words self peers admin http)) ≡ Some http
 
+-- `--http-host=` with this text
+abbrev pub host_word : Text → Text
+host_word text = codes "--http-host=" ++ text
+
+-- `listen` with two names of hosts behind the other words
+abbrev pub host_words : (self peers admin one other : Text) → List Text
+host_words self peers admin one other =
+    listen_words self (peers_word peers ∷ admin_word admin ∷ host_word one ∷ host_word other ∷ [])
+
+-- such a line is taken with both, in their order, for all texts
+pub record TakesHosts (self peers admin one other : Text) : Type 0 where
+  pub taken : IsTaken (host_words self peers admin one other) (codes "listen")
+      (Some peers) (Some admin)
+  pub both : texts_in (codes "http-host")
+      (subcommand_of program (host_words self peers admin one other)) ≡ Some (one ∷ other ∷ [])
+
 -- `--admin-socket=` with this text
 abbrev pub socket_word : Text → Text
 socket_word text = codes "--admin-socket=" ++ text

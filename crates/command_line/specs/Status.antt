@@ -6,7 +6,8 @@ use Rattle.clap.specs.declared.error.kind.ErrorKind.{ErrorKind}
 use Rattle.clap.specs.declared.error.kind.ErrorKind.TheVariants as kind
 use Rattle.command_line.specs.declared.usage.Usage.{Usage}
 use Rattle.command_line.specs.declared.usage.Usage.TheVariants.{Words, BadAddress, NoAdmin}
-use Rattle.command_line.specs.declared.usage.Usage.TheVariants.{BadUnknownPeers, NoMemory}
+use Rattle.command_line.specs.declared.usage.Usage.TheVariants.{BadUnknownPeers, BadHost}
+use Rattle.command_line.specs.declared.usage.Usage.TheVariants.{NoMemory}
 
 -- help and the version are no mistake
 abbrev pub kind_status : ErrorKind → ℕ
@@ -19,6 +20,7 @@ status_of (Words error) = kind_status (kind_of error)
 status_of BadAddress = 2
 status_of NoAdmin = 2
 status_of BadUnknownPeers = 2
+status_of BadHost = 2
 status_of NoMemory = 5
 
 -- what is printed of a command line that asks for no job. The texts of `Words` are clap's
@@ -27,6 +29,7 @@ text_of (Words error) = None
 text_of BadAddress = Some (codes "bad address\n")
 text_of NoAdmin = Some (codes "neither --admin nor --admin-socket\n")
 text_of BadUnknownPeers = Some (codes "bad --unknown-peers\n")
+text_of BadHost = Some (codes "bad --http-host\n")
 text_of NoMemory = Some []
 
 -- what is reported of a failed allocation
@@ -39,4 +42,5 @@ IsUsageOf error (Words told) = (told ≡ error) × (kind_of error ≢ kind.OutOf
 IsUsageOf error BadAddress = ⊥
 IsUsageOf error NoAdmin = ⊥
 IsUsageOf error BadUnknownPeers = ⊥
+IsUsageOf error BadHost = ⊥
 IsUsageOf error NoMemory = kind_of error ≡ kind.OutOfMemory

@@ -44,4 +44,6 @@ pub struct Endpoints {
     pub admin_socket: Option<String>,
     /// Where browsers and Prometheus connect, if anywhere.
     pub http: Option<SocketAddr>,
+    /// The names of hosts for which requests over HTTP may be, beside addresses and `localhost`.
+    pub http_hosts: Vec<String>,
 }

@@ -2,14 +2,15 @@
 
 ghost use Rattle.std.specs.Prelude.{◌≡◌, ◌≤◌, ◌+◌, ◌-◌, ◌/◌, ◌^◌, ◌==◌, ℕ, List};
 ghost use Rattle.command_line.specs.Lines.{Refuses, ShowsHelp, ShowsVersion, TakesAdminSocket};
-ghost use Rattle.command_line.specs.Lines.{TakesFiles, TakesHttp, TakesImport, TakesJoined};
-ghost use Rattle.command_line.specs.Lines.{TakesNetworks, TakesReplay, TakesUnknownPeers};
+ghost use Rattle.command_line.specs.Lines.{TakesFiles, TakesHosts, TakesHttp, TakesImport};
+ghost use Rattle.command_line.specs.Lines.{TakesJoined, TakesNetworks, TakesReplay};
+ghost use Rattle.command_line.specs.Lines.{TakesUnknownPeers};
 ghost use Rattle.command_line.specs.Networks.{first_bits, mapped};
 
 /// `replay`, `import`, and `listen` with `--peers=` and `--admin=` in either order, are taken for
-/// what they say, whatever the program is called and the two texts are. So are each `--from=`,
-/// `--unknown-peers=` and `--http=` beside them, `--admin-socket=` with `--admin=` or without,
-/// `check`, and `--config=`.
+/// what they say, whatever the program is called and the two texts are. So are each `--from=` and
+/// `--http-host=`, `--unknown-peers=` and `--http=` beside them, `--admin-socket=` with `--admin=`
+/// or without, `check`, and `--config=`.
 pub fn shown_lines()
     ensures replay { TakesReplay }
     ensures import { TakesImport }
@@ -19,6 +20,8 @@ pub fn shown_lines()
     ensures unknown_peers { (self peers admin what : List ℕ)
         → TakesUnknownPeers self peers admin what }
     ensures http { (self peers admin http : List ℕ) → TakesHttp self peers admin http }
+    ensures http_hosts { (self peers admin one other : List ℕ)
+        → TakesHosts self peers admin one other }
     ensures admin_socket { (self peers socket admin : List ℕ)
         → TakesAdminSocket self peers socket admin }
     ensures files { (self file peers admin : List ℕ) → TakesFiles self file peers admin }

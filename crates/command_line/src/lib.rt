@@ -7,6 +7,7 @@
 #![tactic(auto)]
 
 mod address;
+mod hosts;
 mod job;
 pub mod laws;
 mod network;

@@ -6,12 +6,13 @@ ghost use Rattle.clap.specs.Words.{app_of, found_of, kind_of, rows_of, rule_of};
 ghost use Rattle.command_line.specs.Address.{parts_of};
 ghost use Rattle.command_line.specs.Asked.{AsksFor, IsCommand, IsJob, IsNoJob, IsRefused};
 ghost use Rattle.command_line.specs.Asked.{IsLocal, SaysAddresses, SaysFile, address_if};
-ghost use Rattle.command_line.specs.Asked.{address_in, address_said, choice_in, choice_of, listen};
-ghost use Rattle.command_line.specs.Asked.{many_option, needed_option, networks_in, path_if};
-ghost use Rattle.command_line.specs.Asked.{path_said, program, value_option};
+ghost use Rattle.command_line.specs.Asked.{address_in, address_said, choice_in, choice_of};
+ghost use Rattle.command_line.specs.Asked.{hosts_in, listen, many_option, needed_option};
+ghost use Rattle.command_line.specs.Asked.{networks_in, path_if, path_said, program, value_option};
 ghost use Rattle.command_line.specs.Networks.{network_parts, networks_of};
 
 use crate::address::read_address;
+use crate::hosts::read_hosts;
 use crate::job::{Endpoints, Job, UnknownPeers};
 use crate::network::Network;
 use crate::networks::read_network;
@@ -39,13 +40,17 @@ const HTTP: &str = "Where browsers and Prometheus connect, as 127.0.0.1:9998 [de
 
 const FROM: &str = "Proxies' networks, as 10.1.0.0/24 or 2001:db8::/32; any number [default: all]";
 
+const HTTP_HOST: &str =
+    "Names under which browsers reach it, beside addresses and localhost; any number";
+
 const UNKNOWN_PEERS: &str =
     "Peers that aren't configured: refuse, or wait until they are [default: refuse]";
 
 /// The job that the words of a command line ask for, the first of them the program's name. Help
 /// that is asked for and words that aren't the program's are `Usage::Words`. Of words that are, an
 /// address that is none is `Usage::BadAddress`. No place where operators connect is
-/// `Usage::NoAdmin`, and another word for unknown peers `Usage::BadUnknownPeers`.
+/// `Usage::NoAdmin`, another word for unknown peers `Usage::BadUnknownPeers`, and a host that has
+/// no name `Usage::BadHost`. Of several the first of these is told.
 pub fn read<'a, S: AsStr>(alloc: Global, words: &'a [S]) -> Result<Job<'a>, Usage>
     ensures job { IfOk result (AsksFor (map S.text words.now)) }
     ensures usage { IfErr result (IsRefused (map S.text words.now)) }
@@ -95,7 +100,8 @@ fn listen<'a>(alloc: Global) -> Result<Command<'a>, AllocError>
         .arg(option(alloc, "admin-socket", "PATH", ADMIN_SOCKET))?
         .arg(option(alloc, "http", "ADDRESS", HTTP))?
         .arg(repeated(alloc, "from", "NETWORK", FROM))?
-        .arg(option(alloc, "unknown-peers", "WHAT", UNKNOWN_PEERS))
+        .arg(option(alloc, "unknown-peers", "WHAT", UNKNOWN_PEERS))?
+        .arg(repeated(alloc, "http-host", "NAME", HTTP_HOST))
 }
 
 // An option that may be there, with its value.
@@ -164,6 +170,7 @@ fn endpoints_in(alloc: Global, given: &ArgMatches<'_>) -> Result<Endpoints, Usag
     let path = path_if(alloc, given, "admin-socket")?;
     let http = address_if(alloc, given, "http")?;
     let from = networks_in(alloc, given, "from")?;
+    let hosts = hosts_in(alloc, given, "http-host")?;
     let (Some(peers), Some(admin), Some(admin_socket)) = (peers, admin, path) else {
         return Err(Usage::BadAddress);
     };
@@ -176,6 +183,9 @@ fn endpoints_in(alloc: Global, given: &ArgMatches<'_>) -> Result<Endpoints, Usag
     let Some(unknown_peers) = choice_in(given) else {
         return Err(Usage::BadUnknownPeers);
     };
+    let Some(http_hosts) = hosts else {
+        return Err(Usage::BadHost);
+    };
     Ok(Endpoints {
         peers,
         from,
@@ -183,6 +193,7 @@ fn endpoints_in(alloc: Global, given: &ArgMatches<'_>) -> Result<Endpoints, Usag
         admin,
         admin_socket,
         http,
+        http_hosts,
     })
 }
 
@@ -292,6 +303,21 @@ fn networks_in(
     match given.get_raw(name) {
         None => Ok(Some(Vec::new(alloc))),
         Some(texts) => read_networks(alloc, texts),
+    }
+}
+
+// The names of hosts that an option says.
+fn hosts_in(
+    alloc: Global,
+    given: &ArgMatches<'_>,
+    name: &str,
+) -> Result<Option<Vec<String>>, NoMemory>
+    ensures { IfOk result (λ found. option_map (λ hosts. map string_bytes hosts.items) found
+        ≡ hosts_in name.now (rows_of (found_of given.now))) }
+{
+    match given.get_raw(name) {
+        None => Ok(Some(Vec::new(alloc))),
+        Some(texts) => read_hosts(alloc, texts),
     }
 }
 

@@ -20,6 +20,8 @@ pub enum Usage {
     NoAdmin,
     /// `--unknown-peers` says neither `refuse` nor `wait`.
     BadUnknownPeers,
+    /// `--http-host` says no name of a host.
+    BadHost,
     /// An allocation failed.
     NoMemory,
 }
@@ -33,7 +35,8 @@ impl Usage {
         match self {
             Usage::Words(error) if error.use_stderr() => 2,
             Usage::Words(_) => 0,
-            Usage::BadAddress | Usage::NoAdmin | Usage::BadUnknownPeers => 2,
+            Usage::BadAddress | Usage::NoAdmin => 2,
+            Usage::BadUnknownPeers | Usage::BadHost => 2,
             Usage::NoMemory => 5,
         }
     }
@@ -66,6 +69,7 @@ impl fmt::Display for Usage {
             Usage::BadAddress => f.write_str("bad address\n"),
             Usage::NoAdmin => f.write_str("neither --admin nor --admin-socket\n"),
             Usage::BadUnknownPeers => f.write_str("bad --unknown-peers\n"),
+            Usage::BadHost => f.write_str("bad --http-host\n"),
             Usage::NoMemory => Ok(()),
         }
     }

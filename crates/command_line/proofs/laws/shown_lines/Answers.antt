@@ -1,7 +1,8 @@
 use Rattle.std.proofs.Common.{List, ℕ, refl}
 use Rattle.clap.proofs.OnLiterals.{clap_on_literals}
-use Rattle.command_line.specs.Lines.{TakesAdminSocket, TakesFiles, TakesHttp, TakesImport}
-use Rattle.command_line.specs.Lines.{TakesJoined, TakesNetworks, TakesReplay, TakesUnknownPeers}
+use Rattle.command_line.specs.Lines.{TakesAdminSocket, TakesFiles, TakesHosts, TakesHttp}
+use Rattle.command_line.specs.Lines.{TakesImport, TakesJoined, TakesNetworks, TakesReplay}
+use Rattle.command_line.specs.Lines.{TakesUnknownPeers}
 use Rattle.command_line.proofs.laws.shown_lines.Goals as goal
 
 replays : TakesReplay
@@ -48,6 +49,13 @@ web self peers admin place = record {
   http_is = refl;
 }
 
+hosts : (self peers admin one other : List ℕ) → TakesHosts self peers admin one other
+unfolding clap_on_literals
+hosts self peers admin one other = record {
+  taken = record { taken = refl; named = refl; peers_is = refl; admin_is = refl };
+  both = refl;
+}
+
 socket : (self peers path admin : List ℕ) → TakesAdminSocket self peers path admin
 unfolding clap_on_literals
 socket self peers path admin = record {
@@ -65,6 +73,7 @@ returns c = record {
   networks = networks;
   unknown_peers = unknown;
   http = web;
+  http_hosts = hosts;
   admin_socket = socket;
   files = files;
 }

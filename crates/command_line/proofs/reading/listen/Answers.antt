@@ -18,8 +18,10 @@ returns-clause-app c =
     ∙ ap₂ with_rule four c.option-4.ensures.rule in
     let six = c.in_ok-arg-6.ensures.shape c.repeated.ensures.local
     ∙ ap₂ with_rule five c.repeated.ensures.rule in
-    IfOk-weaker c.arg-7.result _ _ (λ command h. h.shape c.option-5.ensures.local
-    ∙ ap₂ with_rule six c.option-5.ensures.rule) c.arg-7.ensures
+    let seven = c.in_ok-arg-7.ensures.shape c.option-5.ensures.local
+    ∙ ap₂ with_rule six c.option-5.ensures.rule in
+    IfOk-weaker c.arg-8.result _ _ (λ command h. h.shape c.repeated-2.ensures.local
+    ∙ ap₂ with_rule seven c.repeated-2.ensures.rule) c.arg-8.ensures
 
 pub returns-clause-local : goal.returns-clause-local
 returns-clause-local c =
@@ -36,5 +38,7 @@ returns-clause-local c =
     ∙ ap₂ (λ x y. x || y) four c.option-4.ensures.local in
     let six = c.in_ok-arg-6.ensures.globals
     ∙ ap₂ (λ x y. x || y) five c.repeated.ensures.local in
-    IfOk-weaker c.arg-7.result _ _ (λ command h. h.globals
-    ∙ ap₂ (λ x y. x || y) six c.option-5.ensures.local) c.arg-7.ensures
+    let seven = c.in_ok-arg-7.ensures.globals
+    ∙ ap₂ (λ x y. x || y) six c.option-5.ensures.local in
+    IfOk-weaker c.arg-8.result _ _ (λ command h. h.globals
+    ∙ ap₂ (λ x y. x || y) seven c.repeated-2.ensures.local) c.arg-8.ensures
