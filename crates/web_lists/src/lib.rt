@@ -1,10 +1,12 @@
 //! What is told of a book over HTTP.
 //!
 //! `web_door` asks for lists as JSON, and for a summary, of the book that a look found. The book
-//! comes by reference, so nothing here changes it.
+//! comes by reference, so nothing here changes it. Of a filter's keys exactly the part is told that
+//! was asked for, and no more of them are kept (`keys_from`).
 #![tactic(auto)]
 
 mod lists;
+mod parts;
 mod summing;
 
 pub use lists::{filter_list, rank_list, row_list, table_list};

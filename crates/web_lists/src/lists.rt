@@ -2,12 +2,13 @@
 
 ghost use Rattle.std.specs.Prelude.{◌<◌, length};
 
+use crate::parts::{count, keys_from};
 use agg_types::{Cond, Key, KeyKind, Name, NoMemory, Shape};
-use book::Book;
+use book::{Book, Keys};
 use fleet_model::Summed;
 use key_text::read_key;
 use std::alloc::Global;
-use web_text::{AskFault, Entries, Json, begin_list, end_list, is_behind, keys_from, put_table};
+use web_text::{AskFault, Entries, Json, begin_list, end_list, is_behind, put_table};
 
 // Which keys of a list are told: so many at most, of those behind one, or from the first on.
 #[derive(Drop)]
@@ -81,14 +82,13 @@ fn put_filter(
 ) -> Result<bool, NoMemory>
     requires { place < length book.now.config.filters }
 {
-    let keys = book.filter_keys(place).into_vec(alloc)?;
-    json.number("keys", keys.len() as u64)?;
+    json.number("keys", count(book.filter_keys(place)))?;
     json.number_if("next_change", book.next_change(place))?;
     json.begin_list("entries")?;
-    put_keys(alloc, json, keys.as_slice(), part)
+    put_keys(alloc, json, book.filter_keys(place), part)
 }
 
-fn put_keys(alloc: Global, json: &mut Json, keys: &[&Key], part: &Part) -> Result<bool, NoMemory> {
+fn put_keys(alloc: Global, json: &mut Json, keys: Keys<'_>, part: &Part) -> Result<bool, NoMemory> {
     let (told, more) = keys_from(alloc, keys, part.after.as_ref(), part.limit)?;
     for key in told.as_slice() {
         json.key_item(part.kind, key.as_slice())?;
@@ -118,7 +118,8 @@ pub fn rank_list(
     Ok(end_list(json, more)?)
 }
 
-// Puts a part of a ranked list, and answers whether more follow.
+// Puts a part of a ranked list, and answers whether more follow. Of a list from its first key on
+// no more are looked for than are put, and one that follows them; a list behind a key is whole.
 fn put_ranked(
     alloc: Global,
     json: &mut Json,
@@ -128,9 +129,13 @@ fn put_ranked(
 ) -> Result<bool, NoMemory>
     requires { place < length book.now.config.ranks }
 {
+    let most = match &part.after {
+        None => part.limit.saturating_add(1),
+        Some(_) => usize::MAX,
+    };
     let mut is_told = part.after.is_none();
     let mut left = part.limit;
-    for (key, value) in book.top(alloc, place)? {
+    for (key, value) in book.top_of(alloc, place, most)? {
         if !is_told {
             is_told = is_same(part.after.as_ref(), key);
         } else if left == 0 {
