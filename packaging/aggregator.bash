@@ -17,13 +17,13 @@ _aggregator() {
             COMPREPLY=($(compgen -W "refuse wait" -- "$word"))
             return
             ;;
-        --peers | --admin | --http | --from)
+        --peers | --admin | --http | --http-host | --from)
             return
             ;;
     esac
     case ${COMP_WORDS[1]} in
         listen)
-            COMPREPLY=($(compgen -W "--peers --admin --admin-socket --http --from --unknown-peers --config --help" -- "$word"))
+            COMPREPLY=($(compgen -W "--peers --admin --admin-socket --http --http-host --from --unknown-peers --config --help" -- "$word"))
             ;;
         check)
             COMPREPLY=($(compgen -W "--config --help" -- "$word"))

@@ -28,7 +28,7 @@ use web_serve::Web;
 const PLACES: usize = 9;
 
 /// How many more where there is an HTTP door.
-const WEB_PLACES: usize = 80;
+const WEB_PLACES: usize = 16;
 
 // How many may look at once. Where tables are pushed, a session with a seat may too.
 fn places_for(config: &Config, endpoints: &Endpoints) -> usize
@@ -253,7 +253,8 @@ where
         board: &board,
         connections: &connections,
     };
-    let web = Web::new(*rt, rt.alloc(), &facts, web, &hub);
+    let hosts = endpoints.http_hosts.as_slice();
+    let web = Web::new(*rt, rt.alloc(), &facts, web, &hub, hosts);
     let doors = Sockets {
         alloc: rt.alloc(),
         clock: &clock,

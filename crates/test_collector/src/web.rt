@@ -1,6 +1,8 @@
-//! What is answered over HTTP, in memory: targets, lists and figures of a book, and a clerk.
+//! What is answered over HTTP, in memory: targets, lists and figures of a book, for which hosts and
+//! how often, and by a clerk and a porter.
 
 mod answers;
+mod bounds;
 mod clerks;
 mod targets;
 
@@ -30,6 +32,7 @@ pub fn run<R: Print + Input + RandomSource + Wait>(rt: &R, alloc: Global) -> Res
     let mut input = BufReader::new(alloc, rt.reader())?;
     targets::show(rt, alloc, &mut input)?;
     answers::show(rt, alloc)?;
+    bounds::show(rt, alloc)?;
     let opening = Opening::new(alloc, config(alloc, CONFIG)?, 0)?;
     clerks::show::<Brand, R>(rt, alloc, opening, RandomState::new(rt)?)
 }

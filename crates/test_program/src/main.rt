@@ -171,6 +171,7 @@ fn show_endpoints(rt: &impl Print, endpoints: &Endpoints) -> io::Result<()> {
         admin,
         admin_socket,
         http,
+        http_hosts: _,
     } = endpoints;
     println!(rt; "-- peers at {peers}")?;
     if let Some(admin) = admin {

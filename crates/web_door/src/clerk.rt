@@ -4,18 +4,20 @@ ghost use Rattle.std.specs.Prelude.{◌≡◌};
 ghost use Rattle.hub.specs.Posts.{Follows};
 
 use crate::asking::{ListFault, entries_of, list_of};
+use crate::checks::{health, query_of, refused_early};
 use crate::facts::Facts;
 use crate::looks::{Looks, Shared};
 use crate::reply::{Kind, Reply};
 use agg_types::{Config, NoMemory};
 use bytes::Bytes;
-use http::{Method, Request, StatusCode};
+use http::{Request, StatusCode};
 use http_server::{Response, Service};
 use hub::{Lens, Naming};
 use show_clear::CommandFault;
 use std::alloc::{AllocError, Global};
 use std::marker::PhantomData;
 use std::sync::{Arc, Wait};
+use std::time::Clock;
 use web_lists::summed_up;
 use web_page::PAGE;
 use web_target::{Question, TargetFault, read};
@@ -42,9 +44,13 @@ impl From<AllocError> for Refusal {
 }
 
 /// Who answers the requests of a connection, by a lens of the hub of this name.
-pub struct Clerk<'a, J: Naming, R, F> {
+pub struct Clerk<'a, J: Naming, R, C, F> {
     pub rt: &'a R,
     pub alloc: Global,
+    /// What tells how long looks take.
+    pub clock: &'a C,
+    /// The names of hosts that are the collector's.
+    pub hosts: &'a [String],
     pub config: &'a Config,
     pub lens: Lens,
     pub looks: &'a Looks<J>,
@@ -52,11 +58,13 @@ pub struct Clerk<'a, J: Naming, R, F> {
     pub ghost of: { lens.seen.of ≡ J.book },
 }
 
-impl<'a, J: Naming, R, F> Drop for Clerk<'a, J, R, F> {
+impl<'a, J: Naming, R, C, F> Drop for Clerk<'a, J, R, C, F> {
     fn drop(self) {
         let Clerk {
             rt: _,
             alloc: _,
+            clock: _,
+            hosts: _,
             config: _,
             lens: _,
             looks: _,
@@ -65,9 +73,12 @@ impl<'a, J: Naming, R, F> Drop for Clerk<'a, J, R, F> {
     }
 }
 
-// What is answered where the door is too busy.
-fn busy() -> Reply {
-    Reply::plain(StatusCode::SERVICE_UNAVAILABLE, "too busy\n")
+// A moment of a clock, in µs. One that fails gives 0.
+fn micros<C: Clock>(clock: &C) -> u64 {
+    match clock.monotonic() {
+        Ok(passed) => u64::try_from(passed.as_micros()).unwrap_or(u64::MAX),
+        Err(_) => 0,
+    }
 }
 
 // What is answered to a target that asks for nothing.
@@ -86,18 +97,14 @@ fn unread(fault: TargetFault) -> Reply {
                 "limit is a number from 1 to 10000\n",
             )
         }
-        TargetFault::NoMemory => no_memory(),
+        TargetFault::NoMemory => Reply::no_memory(),
     }
-}
-
-fn no_memory() -> Reply {
-    Reply::plain(StatusCode::SERVICE_UNAVAILABLE, "out of memory\n")
 }
 
 // A reply with a text that was made.
 fn replying(status: StatusCode, kind: Kind, text: Vec<u8>) -> Reply {
     match Bytes::from_vec(text) {
-        Err(_) => no_memory(),
+        Err(_) => Reply::no_memory(),
         Ok(body) => Reply { status, kind, body },
     }
 }
@@ -113,7 +120,7 @@ fn line_of(alloc: Global, name: &str) -> Result<Vec<u8>, NoMemory> {
 // What is answered to conditions that say nothing: the name of their fault.
 fn bad_where(alloc: Global, fault: CommandFault) -> Reply {
     match line_of(alloc, fault.name()) {
-        Err(_) => no_memory(),
+        Err(_) => Reply::no_memory(),
         Ok(line) => replying(StatusCode::BAD_REQUEST, Kind::Plain, line),
     }
 }
@@ -121,13 +128,13 @@ fn bad_where(alloc: Global, fault: CommandFault) -> Reply {
 // What is answered where there is no answer of a book.
 fn refused(alloc: Global, refusal: Refusal) -> Reply {
     match refusal {
-        Refusal::Busy => busy(),
+        Refusal::Busy => Reply::busy(),
         Refusal::List(ListFault::NoSuch) => Reply::plain(StatusCode::NOT_FOUND, "not found\n"),
         Refusal::List(ListFault::BadKey) => {
             Reply::plain(StatusCode::BAD_REQUEST, "after is a key of the list\n")
         }
         Refusal::List(ListFault::BadWhere(fault)) => bad_where(alloc, fault),
-        Refusal::List(ListFault::NoMemory) => no_memory(),
+        Refusal::List(ListFault::NoMemory) => Reply::no_memory(),
     }
 }
 
@@ -139,15 +146,25 @@ fn made(alloc: Global, kind: Kind, text: Result<Vec<u8>, Refusal>) -> Reply {
     }
 }
 
-impl<'a, J: Naming, R: Wait, F: Facts> Clerk<'a, J, R, F> {
+impl<'a, J: Naming, R: Wait, C: Clock, F: Facts> Clerk<'a, J, R, C, F> {
     // The list that a question asks of the book, over one look.
     #[tactic(auto, using(crate::proofs::Later::follows_self))]
     fn look(&mut self, question: &Question) -> Result<Vec<u8>, Refusal>
         ensures { Follows self.old.lens.seen self.new.lens.seen }
     {
-        if !self.looks.take(self.rt, self.facts.now()) {
+        let begun = micros(self.clock);
+        if !self.looks.allow(self.rt, begun) {
             return Err(Refusal::Busy);
         }
+        let list = self.list(question);
+        self.looks.spend(self.rt, begun, micros(self.clock));
+        list
+    }
+
+    #[tactic(auto, using(crate::proofs::Later::follows_self))]
+    fn list(&mut self, question: &Question) -> Result<Vec<u8>, Refusal>
+        ensures { Follows self.old.lens.seen self.new.lens.seen }
+    {
         let Some(look) = self.lens.look() else {
             return Err(Refusal::Busy);
         };
@@ -160,13 +177,23 @@ impl<'a, J: Naming, R: Wait, F: Facts> Clerk<'a, J, R, F> {
 
     // What a look shows of the whole book, to be shared.
     #[tactic(auto, using(crate::proofs::Later::follows_self))]
-    fn sum_up(&mut self) -> Result<Shared<J>, Refusal>
+    fn look_over(&mut self) -> Result<Shared<J>, Refusal>
         ensures { Follows self.old.lens.seen self.new.lens.seen }
     {
-        let at = self.facts.now();
-        if !self.looks.take(self.rt, at) {
+        let begun = micros(self.clock);
+        if !self.looks.allow(self.rt, begun) {
             return Err(Refusal::Busy);
         }
+        let shared = self.sum_up(begun);
+        self.looks.spend(self.rt, begun, micros(self.clock));
+        shared
+    }
+
+    // The same, of a look that is begun at this moment, in µs.
+    #[tactic(auto, using(crate::proofs::Later::follows_self))]
+    fn sum_up(&mut self, begun: u64) -> Result<Shared<J>, Refusal>
+        ensures { Follows self.old.lens.seen self.new.lens.seen }
+    {
         let Some(look) = self.lens.look() else {
             return Err(Refusal::Busy);
         };
@@ -175,8 +202,10 @@ impl<'a, J: Naming, R: Wait, F: Facts> Clerk<'a, J, R, F> {
         let Ok(summary) = Arc::new(self.alloc, summary) else {
             return Err(Refusal::List(ListFault::NoMemory));
         };
+        let at = micros(self.clock);
         Ok(Shared {
             at,
+            took: at.saturating_sub(begun),
             summary,
             receipt,
             hub: PhantomData,
@@ -189,7 +218,7 @@ impl<'a, J: Naming, R: Wait, F: Facts> Clerk<'a, J, R, F> {
         ensures { Follows self.old.lens.seen self.new.lens.seen }
     {
         let mut guard = self.looks.share(self.rt);
-        let now = self.facts.now();
+        let now = micros(self.clock);
         let shared = &mut *guard;
         if let Some(shared) = shared
             && shared.is_fresh(now, self.lens.len())
@@ -197,7 +226,7 @@ impl<'a, J: Naming, R: Wait, F: Facts> Clerk<'a, J, R, F> {
             self.lens.learn(&shared.receipt);
             return Ok(Arc::try_clone(&shared.summary)?);
         }
-        let mine = self.sum_up()?;
+        let mine = self.look_over()?;
         let summary = Arc::try_clone(&mine.summary)?;
         *shared = Some(mine);
         Ok(summary)
@@ -260,10 +289,10 @@ impl<'a, J: Naming, R: Wait, F: Facts> Clerk<'a, J, R, F> {
                 kind: Kind::Page,
                 body: Bytes::from_static(PAGE.as_bytes()),
             },
-            Question::Health => self.health(),
+            Question::Health => health(self.facts),
             _ => {
                 if !self.looks.begin() {
-                    return busy();
+                    return Reply::busy();
                 }
                 let reply = self.answer_looking(question);
                 self.looks.end();
@@ -272,36 +301,23 @@ impl<'a, J: Naming, R: Wait, F: Facts> Clerk<'a, J, R, F> {
         }
     }
 
-    fn health(&self) -> Reply {
-        if self.facts.is_well() {
-            Reply::plain(StatusCode::OK, "ok\n")
-        } else {
-            Reply::plain(StatusCode::SERVICE_UNAVAILABLE, "the clock stands still\n")
-        }
-    }
-
     // What is answered to a request.
     #[tactic(auto, using(crate::proofs::Later::follows_self))]
     fn reply(&mut self, request: &Request<Bytes>) -> Reply
         ensures { Follows self.old.lens.seen self.new.lens.seen }
     {
-        let method = request.method().as_str();
-        if method != "GET" && method != "HEAD" {
-            return Reply::plain(StatusCode::METHOD_NOT_ALLOWED, "only GET and HEAD\n");
+        if let Some(reply) = refused_early(self.alloc, self.hosts, request) {
+            return reply;
         }
-        let uri = request.uri();
-        let query = match uri.query() {
-            None => None,
-            Some(query) => Some(query.as_bytes()),
-        };
-        match read(self.alloc, uri.path().as_bytes(), query) {
+        let path = request.uri().path().as_bytes();
+        match read(self.alloc, path, query_of(request)) {
             Err(fault) => unread(fault),
             Ok(question) => self.answer(&question),
         }
     }
 }
 
-impl<'a, J: Naming, R: Wait, F: Facts> Service for Clerk<'a, J, R, F> {
+impl<'a, J: Naming, R: Wait, C: Clock, F: Facts> Service for Clerk<'a, J, R, C, F> {
     ghost use Rattle.hub.specs.Posts.{Follows};
 
     ghost answers = { λ old request response new. Follows old.lens.seen new.lens.seen };
@@ -312,11 +328,7 @@ impl<'a, J: Naming, R: Wait, F: Facts> Service for Clerk<'a, J, R, F> {
         request: &Request<Bytes>,
         response: &mut Response,
     ) -> Result<(), AllocError> {
-        let reply = self.reply(request);
-        if reply.fill(response).is_err() {
-            response.clear();
-            response.status = StatusCode::SERVICE_UNAVAILABLE;
-        }
+        self.reply(request).send(response);
         Ok(())
     }
 }

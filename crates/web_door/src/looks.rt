@@ -2,7 +2,7 @@
 
 ghost use Rattle.std.specs.Prelude.{◌≡◌};
 
-use crate::budget::{Budget, SECOND};
+use crate::budget::{Budget, freshness};
 use hub::{Naming, Receipt};
 use std::alloc::Global;
 use std::marker::PhantomData;
@@ -13,11 +13,12 @@ use web_text::Summary;
 /// How many answers are made at once.
 const MOST_ANSWERS: u64 = 4;
 
-/// A summary with the moment at which it was made, in ms, and a receipt for the list of its book,
-/// which is one of the hub of this name.
+/// A summary with the moment at which its look ended and how long that took, in µs, and a receipt
+/// for the list of its book, which is one of the hub of this name.
 #[derive(Drop)]
 pub struct Shared<J: Naming> {
     pub at: u64,
+    pub took: u64,
     pub summary: Arc<Summary, Global>,
     pub receipt: Receipt,
     pub hub: PhantomData<J>,
@@ -25,9 +26,9 @@ pub struct Shared<J: Naming> {
 }
 
 impl<J: Naming> Shared<J> {
-    /// Whether it may be used at a moment, in ms, by a lens that has seen so many events.
+    /// Whether it may be used at a moment, in µs, by a lens that has seen so many events.
     pub fn is_fresh(&self, now: u64, seen: u64) -> bool {
-        now.saturating_sub(self.at) < SECOND && self.receipt.len() >= seen
+        now.saturating_sub(self.at) < freshness(self.took) && self.receipt.len() >= seen
     }
 }
 
@@ -63,10 +64,16 @@ impl<J: Naming> Looks<J> {
         self.answers.fetch_sub(1, Ordering::SeqCst);
     }
 
-    /// Whether one more look may be made at a moment, in ms; then it is counted.
-    pub(crate) fn take<R: Wait>(&self, rt: &R, now: u64) -> bool {
+    /// Whether a look may begin at a moment, in µs. If so, `spend` follows.
+    pub(crate) fn allow<R: Wait>(&self, rt: &R, now: u64) -> bool {
+        let budget = self.budget.lock(rt);
+        budget.allows(now)
+    }
+
+    /// A look was made from one moment to another, both in µs.
+    pub(crate) fn spend<R: Wait>(&self, rt: &R, begun: u64, ended: u64) {
         let mut budget = self.budget.lock(rt);
-        budget.take(now)
+        budget.spend(ended, ended.saturating_sub(begun));
     }
 
     /// The look that is shared.

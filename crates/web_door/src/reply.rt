@@ -58,8 +58,26 @@ impl Reply {
         }
     }
 
-    /// Fills a response. Where an allocation failed it may be half filled.
-    pub fn fill(self, response: &mut Response) -> Result<(), AllocError> {
+    /// What is answered where the door is too busy.
+    pub fn busy() -> Reply {
+        Reply::plain(StatusCode::SERVICE_UNAVAILABLE, "too busy\n")
+    }
+
+    /// What is answered where an allocation failed.
+    pub fn no_memory() -> Reply {
+        Reply::plain(StatusCode::SERVICE_UNAVAILABLE, "out of memory\n")
+    }
+
+    /// Fills a response. Where an allocation fails it says so by its status, and nothing else.
+    pub fn send(self, response: &mut Response) {
+        if self.fill(response).is_err() {
+            response.clear();
+            response.status = StatusCode::SERVICE_UNAVAILABLE;
+        }
+    }
+
+    // Fills a response. Where an allocation failed it may be half filled.
+    fn fill(self, response: &mut Response) -> Result<(), AllocError> {
         let Reply { status, kind, body } = self;
         response.status = status;
         response.add_header(CONTENT_TYPE, kind.value())?;
