@@ -6,9 +6,10 @@
 It starts `aggregator listen --http` over a configuration of its own, with names that need escapes. A peer pushes
 rows, which are then asked for in parts, with conditions and in order; figures go through `promtool` where it is
 installed. Hostile clients drip a head, send heads and targets that are too long, bad methods, two lengths, two hosts
-and bytes that are no request; they pipeline, never read, stay silent, or come a thousand at once. The door's budget,
-its four answers at once and the health of a clock that stands still are tried too. The last line counts passed and
-failed; the status is 1 where one failed. It takes about a minute and a half; `--quick` leaves out what waits.
+and bytes that are no request; they ask for other hosts, pipeline, never read, stay silent, hold half requests beside
+`/healthz`, or come a thousand at once. The door's budget, its four answers at once and the health of a clock that
+stands still are tried too. The last line counts passed and failed; the status is 1 where one failed. It takes about a
+minute and a half; `--quick` leaves out what waits.
 """
 
 import argparse
@@ -85,7 +86,7 @@ class Client:
         return int(lines[0].split()[1]), fields, body
 
     def ask(self, path, method="GET", fields=""):
-        self.send(f"{method} {path} HTTP/1.1\r\nHost: x\r\n{fields}\r\n".encode())
+        self.send(f"{method} {path} HTTP/1.1\r\nHost: localhost\r\n{fields}\r\n".encode())
         return self.answer(head_only=method == "HEAD")
 
     def is_closed(self):
@@ -267,7 +268,7 @@ def raw(port, data, timeout=15):
 
 def hostile(report, port):
     """Bytes that are no sound request."""
-    host = b"Host: x\r\n"
+    host = b"Host: localhost\r\n"
     for name, data, wanted in (
         ("a head of 9 KB", b"GET / HTTP/1.1\r\n" + host + b"A: " + b"a" * 9000 + b"\r\n\r\n", [431]),
         ("a head of 8 KB less a little", b"GET /healthz HTTP/1.1\r\n" + host + b"Connection: close\r\nA: " + b"a" * 8000 + b"\r\n\r\n", [200]),
@@ -286,7 +287,7 @@ def hostile(report, port):
         ("a huge body", b"POST / HTTP/1.1\r\n" + host + b"Content-Length: 99999999999\r\n\r\n", [413]),
         ("a coding", b"POST / HTTP/1.1\r\n" + host + b"Transfer-Encoding: gzip, chunked\r\n\r\n", [501]),
         ("a GET with a body", b"GET /healthz HTTP/1.1\r\n" + host + b"Content-Length: 5\r\nConnection: close\r\n\r\nhello", [200]),
-        ("CONNECT", b"CONNECT x:1 HTTP/1.1\r\n" + host + b"Connection: close\r\n\r\n", [405]),
+        ("CONNECT", b"CONNECT localhost:1 HTTP/1.1\r\n" + host + b"Connection: close\r\n\r\n", [405]),
         ("half a head", b"GET / HT", [400]),
         ("nothing", b"", []),
     ):
@@ -303,7 +304,7 @@ def waits(report, port):
         start = time.monotonic()
         with Client(port, timeout=20) as client:
             client.socket.settimeout(0.4)
-            for byte in b"GET /healthz HTTP/1.1\r\nHost: " + b"x" * 200:
+            for byte in b"GET /healthz HTTP/1.1\r\nHost: localhost\r\nA: " + b"x" * 200:
                 try:
                     client.send(bytes([byte]))
                     if not client.more():
@@ -313,14 +314,14 @@ def waits(report, port):
                 except OSError:
                     break
         took = time.monotonic() - start
-        return "" if 9 < took < 13 else f"{took} s"
+        return "" if 1.9 < took < 4 else f"{took} s"
 
     def silent():
         start = time.monotonic()
         with Client(port, timeout=20) as client:
             closed = client.is_closed()
         took = time.monotonic() - start
-        return "" if closed and 9 < took < 13 else f"{took} s"
+        return "" if closed and 1.9 < took < 4 else f"{took} s"
 
     def deaf():
         """Asks for much and reads nothing: the connection is over within the time that an answer has."""
@@ -328,7 +329,7 @@ def waits(report, port):
             client.setsockopt(socket.SOL_SOCKET, socket.SO_RCVBUF, 4096)
             client.settimeout(20)
             client.connect(("127.0.0.1", port))
-            client.sendall(b"GET / HTTP/1.1\r\nHost: x\r\n\r\n" * 2000)
+            client.sendall(b"GET / HTTP/1.1\r\nHost: localhost\r\n\r\n" * 2000)
             time.sleep(14)
             try:
                 client.sendall(b"x" * 100000)
@@ -338,8 +339,16 @@ def waits(report, port):
                 return ""
         return "it is still served"
 
-    at_once(report, {"a head a byte at a time ends in 10 s": drip, "silence ends in 10 s": silent,
-                     "a client that reads nothing ends": deaf})
+    def slow():
+        """A request in two halves, a second apart: it is answered."""
+        with Client(port, timeout=20) as client:
+            client.send(b"GET /healthz HTTP/1.1\r\n")
+            time.sleep(1)
+            client.send(b"Host: localhost\r\n\r\n")
+            return differs((client.answer() or [0])[0], 200)
+
+    at_once(report, {"a head a byte at a time ends in 2 s": drip, "silence ends in 2 s": silent,
+                     "a request in two halves is answered": slow, "a client that reads nothing ends": deaf})
 
 
 def at_once(report, tests):
@@ -355,39 +364,106 @@ def at_once(report, tests):
 
 
 def crowd(report, collector, port):
-    """A thousand connections at once: 64 are served, the others are told."""
+    """A thousand connections at once that say nothing: twelve are served, and all end soon."""
     threads = collector.threads()
-    held, refused = [], 0
-    for _ in range(1000):
-        held.append(socket.create_connection(("127.0.0.1", port), timeout=10))
-    time.sleep(2.5)
-    for client in held:
-        client.setblocking(False)
-        try:
-            refused += client.recv(100).startswith(b"HTTP/1.1 503 ")
-        except BlockingIOError:
-            pass
-    report.check("64 of 1,000 connections are served", 1, lambda: differs(1000 - refused, 64))
-    report.check("no more threads than that", 1, lambda: "" if collector.threads() - threads <= 64 else "more")
+    held = [socket.create_connection(("127.0.0.1", port), timeout=10) for _ in range(1000)]
+    report.check("no more threads for 1,000 connections", 1, lambda: "" if collector.threads() <= threads else "more")
     report.check("an admin is answered meanwhile", 3, lambda: "" if "uptime_ms" in collector.ask("show info") else "not")
+    report.check("and /healthz", 5, lambda: differs(get(port, "/healthz")[0], 200))
+    start = time.monotonic()
     for client in held:
+        client.settimeout(max(0.1, start + 30 - time.monotonic()))
+        try:
+            client.recv(100)
+        except ConnectionError:
+            pass
         client.close()
-    report.check("and the next is served again", 5, lambda: differs(get(port, "/healthz")[0], 200))
-    report.check("all threads end", 12, lambda: differs(collector.threads(), threads))
+    took = time.monotonic() - start
+    report.check("all 1,000 are closed", 1, lambda: "" if took < 20 else f"after {took} s")
+    report.check("and the next is served again", 5, lambda: differs(get(port, "/metrics")[0], 200))
+
+
+def half_requests(report, port):
+    """64 clients that say half a request, and come again once they are closed, beside /healthz and another path."""
+    held, done = [None] * 64, threading.Event()
+
+    def hold(place):
+        while not done.is_set():
+            try:
+                with Client(port) as client:
+                    held[place] = client
+                    client.send(b"GET /healthz HTTP/1.1\r\n")
+                    client.is_closed()
+            except OSError:
+                time.sleep(0.01)
+
+    threads = [threading.Thread(target=hold, args=(place,), daemon=True) for place in range(len(held))]
+    for thread in threads:
+        thread.start()
+    time.sleep(1)
+    slow, seen = [], set()
+    for number in range(40):
+        start = time.monotonic()
+        try:
+            with Client(port) as client:
+                found = client.ask("/healthz" if number % 2 else "/metrics")
+        except OSError as fault:
+            found = (str(fault), {})
+        took = time.monotonic() - start
+        if number % 2 == 0:
+            seen.add(found and found[0])
+        elif not found or found[0] != 200 or took > 1:
+            slow.append(f"{found and found[0]} in {took:.2f} s")
+        time.sleep(0.1)
+    done.set()
+    report.check("/healthz is answered within 1 s beside 64 half requests", 1, lambda: ", ".join(slow))
+    report.check("and anything else is answered, or 503", 1, lambda: "" if seen <= {200, 503} else str(seen))
+    for thread in threads:
+        thread.join(5)
+
+
+def hosts(report, port):
+    """Requests for the collector, and for somebody else."""
+    end = b"Connection: close\r\n\r\n"
+    for name, head, wanted in (
+        ("an address", b"GET /healthz HTTP/1.1\r\nHost: 127.0.0.1\r\n", [200]),
+        ("an address and a port", b"GET /healthz HTTP/1.1\r\nHost: 10.1.2.3:80\r\n", [200]),
+        ("an IPv6 address", b"GET /healthz HTTP/1.1\r\nHost: [::1]\r\n", [200]),
+        ("an IPv6 address and a port", b"GET /healthz HTTP/1.1\r\nHost: [2001:db8::7]:9998\r\n", [200]),
+        ("localhost and a port", b"GET /healthz HTTP/1.1\r\nHost: LocalHost:9998\r\n", [200]),
+        ("a name of --http-host", b"GET /healthz HTTP/1.1\r\nHost: Collector.Example\r\n", [200]),
+        ("another of --http-host, and a port", b"GET /healthz HTTP/1.1\r\nHost: dash:80\r\n", [200]),
+        ("another name", b"GET /healthz HTTP/1.1\r\nHost: evil.example\r\n", [421]),
+        ("another name and a port", b"GET /metrics HTTP/1.1\r\nHost: evil.example:9998\r\n", [421]),
+        ("a name that begins like an address", b"GET / HTTP/1.1\r\nHost: 127.0.0.1.evil.example\r\n", [421]),
+        ("a name that ends like one of ours", b"GET / HTTP/1.1\r\nHost: evil-collector.example\r\n", [421]),
+        ("no name", b"GET /healthz HTTP/1.1\r\nHost:\r\n", [421]),
+        ("a POST for another name", b"POST / HTTP/1.1\r\nHost: evil.example\r\n", [421]),
+        ("the target's host counts", b"GET http://evil.example/healthz HTTP/1.1\r\nHost: localhost\r\n", [421]),
+        ("and not the field's", b"GET http://localhost:9998/healthz HTTP/1.1\r\nHost: evil.example\r\n", [200]),
+        ("HTTP/1.0 without one", b"GET /healthz HTTP/1.0\r\n", [200]),
+        ("HTTP/1.0 for another name", b"GET /healthz HTTP/1.0\r\nHost: evil.example\r\n", [421]),
+    ):
+        report.check(f"a host: {name}", 3, lambda: differs(raw(port, head + end), wanted))
 
 
 def budget(report, port):
-    """Ten looks a second, and a look that is shared."""
-    def looks():
+    """Looks may take a tenth of the time, and some share one."""
+    def fourteen():
         time.sleep(1.1)
-        start = time.monotonic()
         with Client(port) as client:
-            found = [client.ask("/api/v1/ranks/top") for _ in range(100)]
-        took = time.monotonic() - start
+            found = [client.ask("/api/v1/tables/%2Ft?limit=1")[0] for _ in range(14)]
+        return differs(found, [200] * 14)
+
+    def large():
+        """Lists of all rows, asked for without a pause: what is refused says when to come again."""
+        time.sleep(1.1)
+        with Client(port) as client:
+            found = [client.ask("/api/v1/tables/%2Ft?limit=10000") for _ in range(300)]
         good = [answer for answer in found if answer[0] == 200]
         late = [answer for answer in found if answer[0] == 503 and answer[1].get("retry-after") == "1"]
-        sound = 10 <= len(good) <= 10 * (took + 1) and len(good) + len(late) == 100
-        return "" if sound else f"{len(good)} in {took} s"
+        sound = good and len(good) + len(late) == 300
+        return "" if sound else f"{len(good)} and {len(late)} of 300"
 
     def shared():
         time.sleep(1.1)
@@ -395,7 +471,8 @@ def budget(report, port):
             found = [client.ask("/metrics")[0] for _ in range(100)]
         return differs(found, [200] * 100)
 
-    report.check("ten looks a second", 1, looks)
+    report.check("fourteen small requests in a row", 3, fourteen)
+    report.check("large ones are answered or told to wait", 1, large)
     report.check("figures share a look", 1, shared)
 
 
@@ -438,17 +515,20 @@ def main():
     with tempfile.NamedTemporaryFile("w", suffix=".conf") as config:
         config.write(CONFIG)
         config.flush()
-        collector = Collector(options.collector, peers, admin, config.name, options=["--http", f"127.0.0.1:{port}"])
+        web = ["--http", f"127.0.0.1:{port}", "--http-host", "collector.example", "--http-host=dash"]
+        collector = Collector(options.collector, peers, admin, config.name, options=web)
     sound(report, port)
     peer = push(peers)
     parts(report, port)
     figures(report, collector, port)
     never_shrinks(report, port)
     hostile(report, port)
+    hosts(report, port)
     budget(report, port)
     many(report, port)
     if not options.quick:
         waits(report, port)
+        half_requests(report, port)
         crowd(report, collector, port)
         standstill(report, collector, port)
     report.check("it is still there", 3, lambda: differs(get(port, "/healthz")[0], 200))

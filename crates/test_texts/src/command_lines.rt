@@ -125,6 +125,9 @@ fn print_others(rt: &impl Print, endpoints: &Endpoints) -> anyhow::Result<()> {
     if let Some(http) = &endpoints.http {
         println!(rt; "and to {http} for HTTP")?;
     }
+    for host in endpoints.http_hosts.as_slice() {
+        println!(rt; "as {host}")?;
+    }
     if endpoints.unknown_peers == UnknownPeers::Wait {
         println!(rt; "unknown peers wait")?;
     }
