@@ -63,7 +63,8 @@ function remember(told) {
   seen.at = now;
   for (const peer of told.peers) {
     const past = seen.past.get(peer.name) || [];
-    past.push({ at: now, updates: peer.updates, dropped: peer.dropped });
+    const { updates, dropped } = peer;
+    past.push({ at: now, up: told.uptime_ms, updates, dropped });
     while (past[0].at < now - KEPT) past.shift();
     seen.past.set(peer.name, past);
   }
@@ -81,7 +82,7 @@ function ratesOf(name) {
   const past = seen.past.get(name) || [];
   return past.slice(1).map((one, i) => ({
     at: one.at,
-    value: (one.updates - past[i].updates) * 1000 / Math.max(1, one.at - past[i].at),
+    value: (one.updates - past[i].updates) * 1000 / Math.max(1, one.up - past[i].up),
   }));
 }
 

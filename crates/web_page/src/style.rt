@@ -40,6 +40,7 @@ input, select {
   background: var(--card); border: 1px solid var(--dim); border-radius: 6px; padding: 4px 8px;
   min-width: 0; max-width: 100%;
 }
+::placeholder { color: var(--dim); opacity: 1; }
 button {
   background: var(--card); border: 1px solid var(--dim); border-radius: 6px; padding: 4px 12px;
   cursor: pointer;

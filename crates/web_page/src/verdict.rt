@@ -139,7 +139,8 @@ const SIGNS = {
 };
 
 function headline(level, faults) {
-  if (!seen.told) return seen.fault ? "The collector can't be reached" : "Asking the collector";
+  if (seen.fault) return seen.fault.replace(/\.$/, "");
+  if (!seen.told) return "Asking the collector";
   const wrong = faults.filter((one) => one.level === "bad").length;
   const watch = faults.filter((one) => one.level === "watch").length;
   if (level === "good") return "Nothing is wrong";
