@@ -127,15 +127,16 @@ async function askFigures() {
   readFigures(text);
 }
 
-// All keys of a filter, of many the first by key; kept so long. A collector tells 10,000 at most.
+// A filter's keys, and whether there are more: a collector tells 10,000 at most, the first by key.
+// What was asked for is kept so long.
 const lists = new Map();
 async function keysOf({ filter, keys, first }, wait) {
-  if (first.length === keys) return first;
+  if (first.length === keys) return { keys: first, more: false };
   const old = lists.get(filter);
-  if (old && Date.now() - old.at < wait) return old.keys;
+  if (old && Date.now() - old.at < wait) return old;
   const list = await look(listPath("filters", filter, { limit: 10000 }));
-  lists.set(filter, { at: Date.now(), keys: list.entries });
-  return list.entries;
+  lists.set(filter, { at: Date.now(), keys: list.entries, more: list.more });
+  return lists.get(filter);
 }
 
 // Where a filter holds more keys than were told, all are asked for now and then: of one filter a

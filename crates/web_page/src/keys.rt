@@ -16,8 +16,8 @@ function escapedKey(text) {
 // Whether a filter holds a key, as far as it is known: yes, no or none.
 async function isHeld(filter, key) {
   if (filter.first.includes(key)) return true;
-  const keys = await keysOf(filter, FIGURES);
-  return keys.includes(key) || (keys.length < filter.keys ? null : false);
+  const { keys, more } = await keysOf(filter, FIGURES);
+  return keys.includes(key) || (more ? null : false);
 }
 
 class KeyPanel {

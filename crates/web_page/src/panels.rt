@@ -203,7 +203,7 @@ class FilterPanel {
     const found = told.filters.find((one) => one.filter === this.filter);
     if (!found) return;
     this.table = found.table;
-    this.keys = await keysOf(found, FIGURES);
+    this.keys = (await keysOf(found, FIGURES)).keys;
     if (found.keys === found.first.length) this.worth = worthOf(told, this.table, this.keys);
     else if (Date.now() - this.ranked > FIGURES) await this.askRank(told);
     const ago = (key) => this.rows.has(key) ? this.rows.get(key).at : 0;
