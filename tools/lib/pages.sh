@@ -79,7 +79,7 @@ cfg_of() {
             /^    # \.\./ { print "    bind " http "\n    http-request return status 200"; next }
             { print }' "$DIR/${CFG_FILE:-haproxy.cfg}"
     } > "$DIR/$1.cfg"
-    haproxy -c -q -f "$DIR/$1.cfg" -L "$1"
+    "${HAPROXY:-haproxy}" -c -q -f "$DIR/$1.cfg" -L "$1"
 }
 
 # Starts a proxy of this name.
