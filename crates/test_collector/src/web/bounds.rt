@@ -57,7 +57,10 @@ fn show_budget(rt: &impl Print) -> Result<()> {
     )?;
     budget.spend(1_000_000, 300_000);
     for moment in MOMENTS {
-        println!(rt; "at {moment} ms: {}", budget.allows(moment * 1000))?;
+        println!(rt;
+            "at {moment} ms: {}",
+            budget.allows(moment.saturating_mul(1000))
+        )?;
     }
     println!(rt;
         "fresh for {} and {} us",

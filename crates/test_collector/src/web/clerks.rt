@@ -192,7 +192,7 @@ fn answer_beside(rt: &impl Print, paper: &Paper, keys: RandomState) -> Result<()
 }
 
 /// A collector with one name of its own, whose clock gives so many µs more at each question.
-fn paper(alloc: Global, step: u64) -> Result<Paper> {
+fn paper_of(alloc: Global, step: u64) -> Result<Paper> {
     let mut hosts = Vec::new(alloc);
     hosts.push(String::from_str(alloc, "collector.example")?)?;
     Ok(Paper {
@@ -215,7 +215,7 @@ pub fn show<J: Naming, R: Print + Wait>(
 {
     let hub = Hub::<J, &R>::new(alloc, rt, opening, 2)?;
     let looks = Looks::new();
-    let mut paper = paper(alloc, 1_000)?;
+    let mut paper = paper_of(alloc, 1_000)?;
     let mut pass = sit(rt, &hub)?;
     post(rt, alloc, &hub, &mut pass, batch(alloc, [5, 6])?)?;
     answer(rt, &hub, &looks, &paper, keys, FIRST)?;
