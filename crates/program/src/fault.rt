@@ -2,7 +2,7 @@
 
 ghost use Rattle.std.specs.Prelude.{◌≡◌, ℕ, List, IfOk, OnOk};
 ghost use Rattle.std.specs.Io.KnownBytes.{Appends};
-ghost use Rattle.program.specs.Faults.{IsTextOf};
+ghost use Rattle.program.specs.Faults.{IsTextOf, stuck_reason};
 
 use std::alloc::Global;
 use std::io;
@@ -11,6 +11,33 @@ use std::net::SocketAddr;
 
 /// The status of a fault of memory, reading, writing or sockets.
 pub const FAULT: u8 = 5;
+
+/// What doesn't go on in a collector that ends itself.
+#[derive(Clone, Copy, Debug, PartialEq, Eq)]
+pub enum Stuck {
+    /// One showing is under way and doesn't end.
+    Showing,
+    /// Something was appended to the history, and nothing is shown.
+    Unshown,
+    /// The clock posts no moment.
+    Unposted,
+    /// Nobody gets to look at how far showing has come.
+    Unseen,
+}
+
+impl Stuck {
+    /// What doesn't go on, in words.
+    pub fn reason(self) -> &'static str
+        ensures { result.now ≡ stuck_reason self }
+    {
+        match self {
+            Stuck::Showing => "one showing has been under way for 60 s",
+            Stuck::Unshown => "nothing that came was shown for 10 s",
+            Stuck::Unposted => "the clock posted no moment for 10 s",
+            Stuck::Unseen => "the history was locked for 10 s",
+        }
+    }
+}
 
 /// Why nothing is collected, or no longer.
 #[derive(Debug, Drop)]
@@ -27,6 +54,8 @@ pub enum Fault {
     NoMemory,
     /// The listener of the proxies has failed for good.
     Closed(io::Error),
+    /// Something doesn't go on without which nobody is served.
+    Stuck(Stuck),
 }
 
 /// Tells a fault on standard error, in a line, and answers the exit status. A fault of the system
@@ -57,6 +86,10 @@ pub fn tell<E: Write>(alloc: Global, fault: &Fault, errors: &mut E) -> io::Resul
         Fault::Closed(error) => {
             let reason = format!(in alloc; "{error}")?;
             writeln!(errors, "proxies can connect no more: {reason}")?;
+        }
+        Fault::Stuck(stuck) => {
+            let reason = stuck.reason();
+            writeln!(errors, "stuck: {reason}")?;
         }
     }
     Ok(FAULT)

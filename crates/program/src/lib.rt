@@ -17,7 +17,7 @@ mod prepared;
 mod preparing;
 mod words;
 
-pub use fault::{FAULT, Fault, tell};
+pub use fault::{FAULT, Fault, Stuck, tell};
 pub use files::Files;
 pub use prepared::{Asked, Prepared};
 pub use preparing::prepare;
