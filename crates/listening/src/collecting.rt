@@ -146,7 +146,7 @@ where
     let admin = listener_at(rt, endpoints.admin)?;
     let web = listener_at(rt, endpoints.http)?;
     let socket = socket_at(rt.alloc(), paths, &endpoints.admin_socket)?;
-    Ok((peers, Admins::new(admin, socket), web))
+    Ok((peers, Admins::new(rt.alloc(), admin, socket), web))
 }
 
 // Has a thread of its own write the log. It isn't waited for at the end: standard error may take

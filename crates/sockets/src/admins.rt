@@ -2,7 +2,9 @@
 
 use crate::connections::Connections;
 use crate::faults::{lacks, passes};
+use crate::http_calls::{HttpCall, HttpCalls};
 use crate::streams::Stream;
+use std::alloc::Global;
 use std::io;
 use std::io::ErrorKind;
 use std::net::{SocketAddr, TcpListener};
@@ -44,6 +46,8 @@ pub struct Admins {
     turn: Mutex<u64>,
     // one that was accepted to find out whether somebody waits
     ahead: Mutex<Option<Call>>,
+    // those that were ended at a line of HTTP
+    http: Mutex<HttpCalls>,
 }
 
 // How long is rested after an accept that failed. Where a connection waits whose end helps, that
@@ -79,7 +83,11 @@ fn failed(fault: io::Error) -> Answer {
 
 impl Admins {
     /// The operators that come to this listener, and by this socket.
-    pub fn new(listener: Option<TcpListener>, socket: Option<UnixListener>) -> Admins {
+    pub fn new(
+        alloc: Global,
+        listener: Option<TcpListener>,
+        socket: Option<UnixListener>,
+    ) -> Admins {
         if let Some(listener) = &listener {
             let _ = listener.set_nonblocking(true);
         }
@@ -91,6 +99,7 @@ impl Admins {
             socket,
             turn: Mutex::new(0),
             ahead: Mutex::new(None),
+            http: Mutex::new(HttpCalls::new(alloc)),
         }
     }
 
@@ -154,6 +163,21 @@ impl Admins {
             rt.sleep(Duration::from_millis(rest));
         }
         unreachable!()
+    }
+
+    /// A connection from this address was ended at a line of HTTP, at a moment, in ms.
+    pub fn note_http<R: Wait>(&self, rt: &R, now: u64, sender: Option<SocketAddr>) {
+        let mut guard = self.http.lock(rt);
+        let calls = &mut *guard;
+        calls.note(now, sender);
+    }
+
+    /// What is to be told next of connections that were ended at a line of HTTP, at a moment, in
+    /// ms. It is forgotten with that. At most 60 a minute are told each for itself.
+    pub fn take_http<R: Wait>(&self, rt: &R, now: u64) -> Option<HttpCall> {
+        let mut guard = self.http.lock(rt);
+        let calls = &mut *guard;
+        calls.take(now)
     }
 
     /// Whether a connection waits for a thread that serves it. One that does is accepted for that,

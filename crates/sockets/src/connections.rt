@@ -140,6 +140,12 @@ impl Connections {
         }
     }
 
+    /// No connection is served any more, of peers or operators: who serves one ends soon. It waits
+    /// for nothing and nobody.
+    pub fn stop(&self) {
+        self.closed.store(1, Ordering::SeqCst);
+    }
+
     /// Whether the peers' door is closed for good.
     pub fn are_closed(&self) -> bool {
         self.closed.load(Ordering::SeqCst) != 0

@@ -4,6 +4,7 @@ ghost use Rattle.std.specs.Prelude.{◌≡◌, ◌≤◌, length};
 ghost use Rattle.serve.specs.Sources.{IsWithin};
 
 use crate::greeting::Hello;
+use crate::line_head::LineHead;
 use crate::pace::Pace;
 use crate::streams::Stream;
 use crate::ticks::Ticks;
@@ -34,6 +35,8 @@ pub struct Incoming<'a, R: Wait> {
     pub(crate) peer: Option<usize>,
     // The time that it has, of an admin's.
     pub(crate) pace: Option<Pace<'a, R>>,
+    // How its present line begins, of an admin's.
+    pub(crate) head: LineHead,
     // What was read of it so far and not given, from a place on; an admin's room for that.
     pub(crate) held: Vec<u8>,
     pub(crate) taken: usize,
@@ -201,6 +204,29 @@ impl<'a, R: Clock + Wait> Incoming<'a, R> {
         }
     }
 
+    // Whether what came of an admin ends a line of HTTP. Then nothing is given or read any more.
+    fn ends_http(&mut self, came: Came, buffer: &[u8]) -> bool
+        ensures reads { self.new.reads ≡ self.old.reads }
+        ensures failed { self.new.failed ≡ self.old.failed }
+    {
+        let Some(pace) = &self.pace else {
+            return false;
+        };
+        let Came::Bytes(count) = came else {
+            return false;
+        };
+        let Some(piece) = buffer.get(..count) else {
+            return false;
+        };
+        if !self.head.ends_http(piece) {
+            return false;
+        }
+        pace.note_http(self.sender);
+        self.taken = self.end;
+        self.is_over = true;
+        true
+    }
+
     // Notes what came, of an admin.
     fn note(&mut self, came: Came, buffer: &[u8])
         ensures reads { self.new.reads ≡ self.old.reads }
@@ -234,6 +260,9 @@ impl<'a, R: Clock + Wait> Source for Incoming<'a, R> {
         }
         match self.next(buffer) {
             Ok(came) => {
+                if self.ends_http(came, buffer) {
+                    return Ok(Came::End);
+                }
                 self.note(came, buffer);
                 Ok(came)
             }

@@ -3,6 +3,7 @@
 use crate::admins::Admins;
 use crate::ticks::Ticks;
 use std::alloc::Global;
+use std::net::SocketAddr;
 use std::sync::atomic::{AtomicU64, Ordering};
 use std::sync::{Arc, Wait};
 use std::time::Clock;
@@ -69,6 +70,12 @@ impl<'a, R: Clock + Wait> Pace<'a, R> {
         let may_end = was_answered || !self.is_in_line;
         let is_long = now.saturating_sub(self.came) >= TURN_LIMIT;
         !(may_end && is_long && self.admins.does_one_wait(&self.clock.rt))
+    }
+
+    /// The connection, from this address, ends at a line of HTTP.
+    pub fn note_http(&self, sender: Option<SocketAddr>) {
+        let now = self.clock.moment();
+        self.admins.note_http(&self.clock.rt, now, sender);
     }
 
     /// A piece of a line came, of which this is the last byte.

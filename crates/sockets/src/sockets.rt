@@ -5,6 +5,7 @@ use crate::connections::Connections;
 use crate::faults::{lacks, passes};
 use crate::greeting::{Greeting, Hello, read_hello};
 use crate::incoming::Incoming;
+use crate::line_head::LineHead;
 use crate::outgoing::Outgoing;
 use crate::pace::{Begun, Pace};
 use crate::streams::Stream;
@@ -83,6 +84,7 @@ impl<'a, R: Clock + Wait> Sockets<'a, R> {
             id,
             peer: None,
             pace: None,
+            head: LineHead::new(),
             held: Vec::new(self.alloc),
             taken: 0,
             end: 0,
