@@ -7,6 +7,7 @@
 //! here is promised but that it is safe. What the lines of the log say, test_program prints.
 #![tactic(auto)]
 
+mod alarms;
 mod board;
 mod facts;
 mod fullness;
@@ -17,6 +18,7 @@ mod memory;
 mod notes;
 mod reporting;
 
+pub use alarms::Alarm;
 pub use board::{Board, Totals};
 pub use facts::CollectorFacts;
 pub use fullness::{Fullness, Watch};

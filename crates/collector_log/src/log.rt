@@ -4,6 +4,7 @@
 //! `key=value`. A value that could be taken for anything else is quoted, and its bytes outside
 //! printable ASCII are escaped, so that a line break that a sender chose begins no line.
 
+use crate::alarms::Alarm;
 use crate::judging::Because;
 use command_line::VERSION;
 use hub::PostFault;
@@ -93,6 +94,8 @@ pub enum Event<'a> {
     AdminTurnedAway {
         address: Option<SocketAddr>,
     },
+    /// The collector is stuck and ends, or an operator's connection was HTTP's.
+    Alarm(Alarm),
 }
 
 impl<'a> Event<'a> {
@@ -115,6 +118,7 @@ impl<'a> Event<'a> {
             Event::PeersUnasked { .. } => "warn connections from elsewhere closed",
             Event::LinesLost { .. } => "warn log lines lost",
             Event::AdminTurnedAway { .. } => "warn admin turned away",
+            Event::Alarm(alarm) => alarm.words(),
         }
     }
 }
@@ -202,6 +206,7 @@ impl<'a> fmt::Display for Line<'a> {
             Event::AdminTurnedAway { address } => {
                 write!(f, "{} reason=\"no seat, or out of memory\"", From(address))
             }
+            Event::Alarm(alarm) => write!(f, "{alarm}"),
         }
     }
 }
