@@ -219,6 +219,7 @@ where
     let Ok(board) = Board::new(rt.alloc(), hub.config().peers.len()) else {
         return Fault::NoMemory;
     };
+    let _kept = paths.take_standard();
     let listeners = match listen(rt, paths, endpoints) {
         Ok(listeners) => listeners,
         Err(fault) => return fault,

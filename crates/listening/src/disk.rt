@@ -1,26 +1,57 @@
 //! The files of the machine.
 
 use std::alloc::Global;
-use std::fs::{File, Permissions};
+use std::fs::{DirBuilder, File, Permissions};
 use std::io::{ErrorKind, Read};
 use std::net::Net;
-use std::os::unix::fs::{FileTypeExt, PermissionsExt};
-use std::os::unix::net::{UnixListener, UnixStream};
+use std::os::fd::AsRawFd;
+use std::os::unix::fs::{DirBuilderExt, FileTypeExt, PermissionsExt};
+use std::os::unix::net::{SocketAddr, UnixListener, UnixStream};
 use std::{fs, io};
 
 /// Who may connect by a socket: its user and its group.
 const MODE: u32 = 0o660;
 
+/// Who may enter the directory in which a socket is made: its user.
+const PRIVATE: u32 = 0o700;
+
+/// How such a directory is called behind its dot: by the first of these that is free.
+const LETTERS: [char; 16] = [
+    '0', '1', '2', '3', '4', '5', '6', '7', '8', '9', 'a', 'b', 'c', 'd', 'e', 'f',
+];
+
+/// The last descriptor of the three that standard input, output and error have.
+const LAST_STANDARD: i32 = 2;
+
+/// The code of the system for an address that is in use.
+const IN_USE: i32 = 98;
+
 /// Where sockets are made by their paths.
 pub trait Paths {
+    /// What keeps descriptors in use.
+    type Kept: Drop;
+
     /// Listens by a socket of this path, where its user and its group may connect.
     fn listen(&self, path: &str) -> io::Result<UnixListener>;
+
+    /// Takes the descriptors of standard input, output and error that are closed, so that nothing
+    /// else gets them for as long as what it answers is kept.
+    fn take_standard(&self) -> Self::Kept;
 }
 
 /// The files of the machine, by their paths.
 #[derive(Drop)]
 pub struct Disk<R> {
     pub rt: R,
+}
+
+/// Files in the place of standard input, output and error, where these were closed. Nothing can be
+/// written there, as where they are closed.
+#[derive(Drop)]
+pub struct Standard {
+    first: Option<File>,
+    second: Option<File>,
+    third: Option<File>,
 }
 
 impl<R: fs::Files> program::Files for Disk<R> {
@@ -36,7 +67,26 @@ impl<R: fs::Files> program::Files for Disk<R> {
     }
 }
 
-impl<R: fs::Files + Net> Disk<R> {
+// That an address is in use, as a bind says it.
+fn in_use() -> io::Error {
+    io::Error::from_raw_os_error(IN_USE)
+}
+
+// The name of a directory beside a path.
+fn beside(alloc: Global, path: &str, letter: char) -> io::Result<String> {
+    let name = match path.rsplit_once('/') {
+        None => format!(in alloc; ".{letter}"),
+        Some((folder, _)) => format!(in alloc; "{folder}/.{letter}"),
+    };
+    Ok(name?)
+}
+
+impl<R: fs::Files<File = File> + Net + AllocGlobal> Disk<R> {
+    // Whether something lies at a path.
+    fn is_there(&self, path: &str) -> bool {
+        fs::symlink_metadata(&self.rt, path).is_ok()
+    }
+
     // Whether a socket lies at a path, and nobody answers there any more.
     fn is_stale(&self, path: &str) -> bool {
         let Ok(found) = fs::symlink_metadata(&self.rt, path) else {
@@ -51,25 +101,111 @@ impl<R: fs::Files + Net> Disk<R> {
         }
     }
 
-    // Binds a path. A socket that was left there is replaced.
-    fn bind(&self, path: &str) -> io::Result<UnixListener> {
-        match UnixListener::bind(&self.rt, path) {
-            Ok(listener) => Ok(listener),
-            Err(fault) => {
-                if fault.kind() != ErrorKind::AddrInUse || !self.is_stale(path) {
-                    return Err(fault);
+    // A new directory beside a path that nobody else may enter. Where the process masks its own
+    // rights there, it gives them to itself.
+    fn make_private(&self, path: &str) -> io::Result<String> {
+        let mut builder = DirBuilder::new();
+        builder.mode(PRIVATE);
+        for letter in LETTERS {
+            let folder = beside(self.rt.alloc(), path, letter)?;
+            let name = folder.as_str();
+            match builder.create(&self.rt, name) {
+                Ok(()) => {
+                    let mode = fs::metadata(&self.rt, name)?.permissions().mode();
+                    if mode & PRIVATE != PRIVATE {
+                        fs::set_permissions(&self.rt, name, Permissions::from_mode(PRIVATE))?;
+                    }
+                    return Ok(folder);
                 }
-                fs::remove_file(&self.rt, path)?;
-                UnixListener::bind(&self.rt, path)
+                Err(fault) if fault.kind() == ErrorKind::AlreadyExists => {}
+                Err(fault) => return Err(fault),
             }
         }
+        Err(io::Error::from(ErrorKind::AlreadyExists))
+    }
+
+    // Gives a socket its path, where nothing lies there. Where the file system has no links, it is
+    // renamed.
+    fn place(&self, made: &str, path: &str) -> io::Result<()> {
+        match fs::hard_link(&self.rt, made, path) {
+            Ok(()) => Ok(()),
+            Err(fault) if fault.kind() == ErrorKind::AlreadyExists => Err(in_use()),
+            Err(fault) if fault.kind() == ErrorKind::NotFound => Err(fault),
+            Err(_) if self.is_there(path) => Err(in_use()),
+            Err(_) => fs::rename(&self.rt, made, path),
+        }
+    }
+
+    // Takes a socket away that an earlier run left at a path. It is taken into a private directory
+    // first: where somebody began to listen there just before that, it gets its path back.
+    fn take_stale(&self, folder: &str, path: &str) -> io::Result<()> {
+        if !self.is_stale(path) {
+            return Err(in_use());
+        }
+        let taken = format!(in self.rt.alloc(); "{folder}/t")?;
+        let taken = taken.as_str();
+        fs::rename(&self.rt, path, taken)?;
+        if self.is_stale(taken) {
+            return fs::remove_file(&self.rt, taken);
+        }
+        if self.place(taken, path).is_ok() {
+            let _ = fs::remove_file(&self.rt, taken);
+        }
+        Err(in_use())
+    }
+
+    // Gives a socket its path, also in the place of one that an earlier run left there.
+    fn place_or_replace(&self, folder: &str, made: &str, path: &str) -> io::Result<()> {
+        if self.is_there(path) {
+            self.take_stale(folder, path)?;
+        }
+        self.place(made, path)
+    }
+
+    // Listens by a socket that is made in a private directory, and has its rights before it gets
+    // its path.
+    fn listen_from(&self, folder: &str, path: &str) -> io::Result<UnixListener> {
+        let made = format!(in self.rt.alloc(); "{folder}/s")?;
+        let made = made.as_str();
+        let listener = UnixListener::bind(&self.rt, made)?;
+        let mut placed = fs::set_permissions(&self.rt, made, Permissions::from_mode(MODE));
+        if placed.is_ok() {
+            placed = self.place_or_replace(folder, made, path);
+        }
+        let _ = fs::remove_file(&self.rt, made);
+        placed?;
+        Ok(listener)
+    }
+
+    // A file with one of the descriptors of standard input, output and error, if one is free.
+    fn take_one(&self) -> Option<File> {
+        let file = match File::open(&self.rt, "/dev/null") {
+            Ok(file) => file,
+            Err(_) => File::open(&self.rt, "/").ok()?,
+        };
+        if file.as_raw_fd() > LAST_STANDARD {
+            return None;
+        }
+        Some(file)
     }
 }
 
-impl<R: fs::Files + Net> Paths for Disk<R> {
+impl<R: fs::Files<File = File> + Net + AllocGlobal> Paths for Disk<R> {
+    type Kept = Standard;
+
     fn listen(&self, path: &str) -> io::Result<UnixListener> {
-        let listener = self.bind(path)?;
-        fs::set_permissions(&self.rt, path, Permissions::from_mode(MODE))?;
-        Ok(listener)
+        let _address = SocketAddr::from_pathname(path)?;
+        let folder = self.make_private(path)?;
+        let listener = self.listen_from(folder.as_str(), path);
+        let _ = fs::remove_dir(&self.rt, folder.as_str());
+        listener
+    }
+
+    fn take_standard(&self) -> Standard {
+        Standard {
+            first: self.take_one(),
+            second: self.take_one(),
+            third: self.take_one(),
+        }
     }
 }

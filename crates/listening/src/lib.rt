@@ -12,5 +12,5 @@ mod disk;
 mod running;
 
 pub use collecting::{Stopped, collect};
-pub use disk::{Disk, Paths};
+pub use disk::{Disk, Paths, Standard};
 pub use running::{run, run_words};

@@ -208,6 +208,10 @@ impl program::Files for Shelf {
 
 // Somebody listens at each path.
 impl Paths for Shelf {
+    type Kept = ();
+
+    fn take_standard(&self) {}
+
     fn listen(&self, _path: &str) -> io::Result<UnixListener> {
         Err(io::Error::from(ErrorKind::AddrInUse))
     }
