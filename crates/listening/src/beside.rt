@@ -1,4 +1,4 @@
-//! The doors of a collector, with visits and a watch beside them.
+//! The doors of a collector, with visits, a watch and a pulse beside them.
 
 use agg_types::Config;
 use hub::{Hub, Naming};
@@ -10,20 +10,62 @@ use std::sync::atomic::{AtomicU64, Ordering};
 use std::thread::Threads;
 use web_serve::Visits;
 
-/// Doors, and visits and a watch that are served beside them.
+/// What is served beside the doors: visits, a watch and a pulse, of which the latter two have one
+/// thread each.
 #[derive(Drop)]
-struct WithVisits<'d, 'v, 'w, D, V, F> {
-    doors: &'d D,
+pub struct Beside<'v, 'w, 'p, V, F, P> {
     visits: &'v V,
     watch: &'w F,
+    pulse: &'p P,
     // how many threads came to serve them
     came: AtomicU64,
 }
 
-impl<'d, 'v, 'w, S: Source + Drop, W: Write + Drop, D: Doors<S, W>, V: Visits, F: Visits> Doors<
-    S,
-    W,
-> for WithVisits<'d, 'v, 'w, D, V, F> {
+impl<'v, 'w, 'p, V: Visits, F: Visits, P: Visits> Beside<'v, 'w, 'p, V, F, P> {
+    /// No thread serves them yet.
+    pub fn new(visits: &'v V, watch: &'w F, pulse: &'p P) -> Beside<'v, 'w, 'p, V, F, P> {
+        Beside {
+            visits,
+            watch,
+            pulse,
+            came: AtomicU64::new(0),
+        }
+    }
+
+    fn threads(&self) -> u64 {
+        self.visits.threads().saturating_add(2)
+    }
+
+    // The first thread watches, the second is the pulse, the others serve visits.
+    fn serve(&self) {
+        match self.came.fetch_add(1, Ordering::SeqCst) {
+            0 => self.watch.serve(),
+            1 => self.pulse.serve(),
+            _ => self.visits.serve(),
+        }
+    }
+}
+
+/// Doors, and what is served beside them.
+#[derive(Drop)]
+struct WithVisits<'d, 'b, 'v, 'w, 'p, D, V, F, P> {
+    doors: &'d D,
+    beside: &'b Beside<'v, 'w, 'p, V, F, P>,
+}
+
+impl<
+    'd,
+    'b,
+    'v,
+    'w,
+    'p,
+    S: Source + Drop,
+    W: Write + Drop,
+    D: Doors<S, W>,
+    V: Visits,
+    F: Visits,
+    P: Visits,
+> Doors<S, W> for WithVisits<'d, 'b, 'v, 'w, 'p, D, V, F, P> {
     ghost unread = { D.unread };
 
     ghost blank = { D.blank };
@@ -53,16 +95,11 @@ impl<'d, 'v, 'w, S: Source + Drop, W: Write + Drop, D: Doors<S, W>, V: Visits, F
     }
 
     fn threads_beside(&self) -> u64 {
-        self.visits.threads().saturating_add(1)
+        self.beside.threads()
     }
 
-    // The first thread watches, the others serve visits.
     fn beside(&self) {
-        if self.came.fetch_add(1, Ordering::SeqCst) == 0 {
-            self.watch.serve();
-        } else {
-            self.visits.serve();
-        }
+        self.beside.serve();
     }
 
     fn part_peer(&self, config: &Config, source: S, writer: W, ended: Result<Served, Faulted>) {
@@ -81,8 +118,7 @@ impl<'d, 'v, 'w, S: Source + Drop, W: Write + Drop, D: Doors<S, W>, V: Visits, F
     }
 }
 
-/// Serves who comes to these doors as `serve_all` does, and visits and a watch beside them. The
-/// watch takes one thread.
+/// Serves who comes to these doors as `serve_all` does, and what is to be served beside them.
 pub fn serve_beside<
     J: Naming + Send + Sync,
     H: Wait + Drop + Send,
@@ -94,12 +130,16 @@ pub fn serve_beside<
     D: Doors<S, W> + Sync,
     V: Visits + Sync,
     F: Visits + Sync,
->(rt: &R, alloc: Global, doors: &D, visits: &V, watch: &F, clock: &C, hub: &Hub<J, H>, gate: &G) {
-    let doors = WithVisits {
-        doors,
-        visits,
-        watch,
-        came: AtomicU64::new(0),
-    };
+    P: Visits + Sync,
+>(
+    rt: &R,
+    alloc: Global,
+    doors: &D,
+    beside: &Beside<'_, '_, '_, V, F, P>,
+    clock: &C,
+    hub: &Hub<J, H>,
+    gate: &G,
+) {
+    let doors = WithVisits { doors, beside };
     let _ended = serve_all(rt, alloc, &doors, clock, hub, gate);
 }

@@ -3,14 +3,16 @@
 ghost use Rattle.std.specs.Prelude.{◌≡◌, ◌<◌, ◌≤◌, []};
 ghost use Rattle.agg_types.specs.Check.{config_faults};
 
-use crate::beside::serve_beside;
+use crate::attending::attend;
+use crate::beside::{Beside, serve_beside};
 use crate::disk::Paths;
-use agg_types::{Config, MOST_SEATS};
+use crate::pulse::{Beats, Pulse};
+use agg_types::{Config, MOST_SEATS, NoMemory};
 use collector_log::{Board, CollectorFacts, Event, Journal, Memory, Notes, Watch};
 use command_line::Endpoints;
 use hub::{Hub, Naming, Opening};
 use program::{Asked, Fault};
-use sockets::{Admins, Connections, Sockets, Ticks};
+use sockets::{Admins, Sockets, Ticks};
 use std::alloc::Global;
 use std::io::{ErrorKind, Write};
 use std::marker::Brand;
@@ -66,7 +68,9 @@ impl Stopped {
 }
 
 /// Listens at all addresses, says so on standard output, and collects until the listener of the
-/// proxies has failed. Answers why it didn't begin, or ended.
+/// proxies has failed, or the collector is stuck. Answers why it didn't begin, or ended.
+///
+/// Workers that are stuck aren't waited for: they end where the program does.
 pub fn collect<R, P, O>(rt: &R, paths: &P, asked: Asked, output: &mut O) -> Stopped
 where
     R: Threads + Wait + Copy + Send + Sync + 'static,
@@ -84,7 +88,7 @@ where
     let Ok(journal) = Arc::new(rt.alloc(), Journal::new(rt.alloc())) else {
         return Stopped::early(Fault::NoMemory);
     };
-    let fault = serve::<Brand, R, P, O>(rt, paths, opening, places, &endpoints, &journal, output);
+    let fault = serve::<Brand, R, P, O>(rt, paths, opening, places, endpoints, &journal, output);
     let is_heard = journal.finish(rt);
     Stopped { fault, is_heard }
 }
@@ -194,13 +198,14 @@ where
     Ok(start)
 }
 
-// Listens at all addresses, and serves until the listener of the proxies has failed.
-fn serve<J: Naming + Send + Sync, R, P, O>(
+// Listens at all addresses, has workers serve there, and waits until they have ended, or don't go
+// on.
+fn serve<J: Naming + Send + Sync + 'static, R, P, O>(
     rt: &R,
     paths: &P,
     opening: Opening,
     places: usize,
-    endpoints: &Endpoints,
+    endpoints: Endpoints,
     journal: &Arc<Journal, Global>,
     output: &mut O,
 ) -> Fault
@@ -213,78 +218,173 @@ where
     requires named { opening.of ≡ J.book }
     requires places { (0 < places) × (places ≤ 1000) }
 {
-    let Ok(hub) = Hub::<J, R>::new(rt.alloc(), *rt, opening, places) else {
-        return Fault::NoMemory;
-    };
-    let Ok(board) = Board::new(rt.alloc(), hub.config().peers.len()) else {
+    let Ok(work) = Work::<J, R>::new(rt, opening, places, endpoints, journal) else {
         return Fault::NoMemory;
     };
     let _kept = paths.take_standard();
-    let listeners = match listen(rt, paths, endpoints) {
+    let listeners = match listen(rt, paths, &work.endpoints) {
         Ok(listeners) => listeners,
         Err(fault) => return fault,
     };
-    match begin(rt, endpoints, journal, output) {
-        Ok(start) => serve_at(rt, hub, board, endpoints, &**journal, listeners, start),
+    match begin(rt, &work.endpoints, journal, output) {
+        Ok(start) => work.attend(listeners, start),
         Err(error) => Fault::Start(error),
     }
+}
+
+/// What the workers stand on, which is theirs alone but for the log and the pulse.
+#[derive(Drop)]
+struct Work<J: Naming, R: Wait + Drop> {
+    rt: R,
+    hub: Hub<J, R>,
+    board: Board,
+    endpoints: Endpoints,
+    journal: Arc<Journal, Global>,
+    pulse: Arc<Pulse, Global>,
+}
+
+impl<J: Naming + Send + Sync + 'static, R> Work<J, R>
+where
+    R: Threads + Wait + Copy + Send + Sync + 'static,
+    R: Eprint + AllocGlobal + Clock + RandomSource + Memory,
+{
+    // Nothing came yet.
+    fn new(
+        rt: &R,
+        opening: Opening,
+        places: usize,
+        endpoints: Endpoints,
+        journal: &Arc<Journal, Global>,
+    ) -> Result<Work<J, R>, NoMemory>
+        requires named { opening.of ≡ J.book }
+        requires places { (0 < places) × (places ≤ 1000) }
+    {
+        let hub = Hub::<J, R>::new(rt.alloc(), *rt, opening, places)?;
+        let board = Board::new(rt.alloc(), hub.config().peers.len())?;
+        let Ok(pulse) = Arc::new(rt.alloc(), Pulse::new(rt.alloc())) else {
+            return Err(NoMemory);
+        };
+        Ok(Work {
+            rt: *rt,
+            hub,
+            board,
+            endpoints,
+            journal: Arc::try_clone(journal)?,
+            pulse,
+        })
+    }
+
+    // Has workers serve at these listeners in threads of their own, and waits until they have
+    // ended, or don't go on. Then they aren't waited for.
+    fn attend(self, listeners: Listeners, start: Instant) -> Fault {
+        let rt = self.rt;
+        let (Ok(journal), Ok(pulse)) = (Arc::try_clone(&self.journal), Arc::try_clone(&self.pulse))
+        else {
+            return Fault::NoMemory;
+        };
+        let work = self;
+        if thread::spawn(&rt, move || work.run(listeners, start)).is_err() {
+            return Fault::Start(io::Error::from(ErrorKind::OutOfMemory));
+        }
+        let clock = Ticks { rt, start };
+        attend(&rt, &clock, &*journal, &*pulse)
+    }
+
+    // Serves until the listener of the proxies has failed, or the collector is given up.
+    fn run(self, listeners: Listeners, start: Instant) {
+        let Work {
+            rt,
+            hub,
+            board,
+            endpoints,
+            journal,
+            pulse,
+        } = self;
+        let clock = Ticks { rt, start };
+        let beating = Beating {
+            board: &board,
+            journal: &*journal,
+            clock: &clock,
+            pulse: &*pulse,
+        };
+        serve_at(&rt, &hub, &endpoints, listeners, &beating);
+        let fault = match pulse.connections.take_fault(&rt) {
+            None => Fault::NoMemory,
+            Some(error) => Fault::Closed(error),
+        };
+        pulse.end(&rt, fault);
+    }
+}
+
+/// What workers tell of themselves, and by which clock.
+#[derive(Drop)]
+struct Beating<'a, R> {
+    board: &'a Board,
+    journal: &'a Journal,
+    clock: &'a Ticks<R>,
+    pulse: &'a Pulse,
 }
 
 // Serves at these listeners until that of the proxies has failed.
 fn serve_at<J: Naming + Send + Sync, R>(
     rt: &R,
-    hub: Hub<J, R>,
-    board: Board,
+    hub: &Hub<J, R>,
     endpoints: &Endpoints,
-    journal: &Journal,
     listeners: Listeners,
-    start: Instant,
-) -> Fault
+    beating: &Beating<'_, R>,
+)
 where
     R: Threads + Wait + Copy + Send + Sync + 'static,
     R: Eprint + AllocGlobal + Clock + RandomSource + Memory,
 {
+    let (board, journal) = (beating.board, beating.journal);
+    let (clock, pulse) = (beating.clock, beating.pulse);
     let (peers, admins, web) = listeners;
-    let clock = Ticks { rt: *rt, start };
-    let connections = Connections::new(rt.alloc());
+    let connections = &pulse.connections;
     let facts = CollectorFacts {
         alloc: rt.alloc(),
         config: hub.config(),
-        clock: &clock,
-        board: &board,
-        connections: &connections,
+        clock,
+        board,
+        connections,
     };
     let hosts = endpoints.http_hosts.as_slice();
-    let web = Web::new(*rt, rt.alloc(), &facts, web, &hub, hosts);
+    let web = Web::new(*rt, rt.alloc(), &facts, web, hub, hosts);
     let doors = Sockets {
         alloc: rt.alloc(),
-        clock: &clock,
+        clock,
         peers,
         from: endpoints.from.as_slice(),
         unknown_peers: endpoints.unknown_peers,
         admins: &admins,
-        connections: &connections,
+        connections,
     };
     let notes = Notes {
         rt: *rt,
         alloc: rt.alloc(),
         config: hub.config(),
-        connections: &connections,
+        connections,
         journal,
-        clock: &clock,
-        board: &board,
+        clock,
+        board,
     };
     let watch = Watch {
         rt: *rt,
         alloc: rt.alloc(),
-        hub: &hub,
+        hub,
         journal,
-        clock: &clock,
-        connections: &connections,
+        clock,
+        connections,
     };
-    serve_beside(rt, rt.alloc(), &doors, &web, &watch, &clock, &hub, &notes);
-    match connections.take_fault(rt) {
-        None => Fault::NoMemory,
-        Some(error) => Fault::Closed(error),
-    }
+    let beats = Beats {
+        rt: *rt,
+        hub,
+        board,
+        admins: &admins,
+        journal,
+        clock,
+        pulse,
+    };
+    let beside = Beside::new(&web, &watch, &beats);
+    serve_beside(rt, rt.alloc(), &doors, &beside, clock, hub, &notes);
 }
