@@ -1,5 +1,5 @@
 //! Runs the program in memory, and prints what it writes to each stream and its exit status; then
-//! lines of the log. What it writes to standard output is printed as it comes, what it writes to
+//! lines of the log, and when a collector counts as stuck. What it writes to standard output is printed as it comes, what it writes to
 //! standard error behind that.
 //!
 //! Last it runs `aggregator listen` on sockets, with a peer and admins: `tcp` says how. That
@@ -10,6 +10,7 @@ mod full;
 mod log;
 mod scene;
 mod status;
+mod stuck;
 mod tcp;
 
 use collector_log::Memory;
@@ -108,6 +109,7 @@ fn main(rt: HostRuntime) -> anyhow::Result<()> {
     show_torn(&rt)?;
     show_addresses_in_use(&rt)?;
     log::show(&rt)?;
+    stuck::show(&rt)?;
     let (peers, admin) = tcp::addresses(&rt)?;
     let _collector = thread::spawn(&rt, move || {
         let _ = tcp::collect(&rt, peers, admin);

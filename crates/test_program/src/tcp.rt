@@ -3,8 +3,8 @@
 //! The collector runs in a thread, with the configuration on standard input. A peer says hello,
 //! defines a table and sends three updates, each once the one before it is acknowledged; then an
 //! admin asks for the table and what else stands, and quits. Another one asks by the socket, which
-//! was left there before, and is told what is wrong with its lines. A stranger that says nothing is
-//! connected all the while, and a newer connection of the peer ends the older one. What each is
+//! was left there before, and is told what is wrong with its lines. A browser's form ends its
+//! connection and changes nothing. A stranger that says nothing is connected all the while, and a newer connection of the peer ends the older one. What each is
 //! answered is printed. The collector doesn't end by itself: the program ends while it runs.
 
 use anyhow::{Result, anyhow};
@@ -175,6 +175,21 @@ fn ask_status(rt: &impl Print, alloc: Global, asking: &TcpStream) -> Result<()> 
     Ok(())
 }
 
+/// A browser sends a form behind a question: what it is answered up to the end of the connection.
+fn browse(rt: &HostRuntime, admin: SocketAddr) -> Result<()> {
+    let browser = connect(rt, admin)?;
+    send(
+        &browser,
+        b"show table t\nPOST / HTTP/1.1\r\nHost: x\r\n\r\nclear table t\n",
+    )?;
+    let mut answer = Vec::new(rt.alloc());
+    let mut from = &browser;
+    from.read_to_end(&mut answer)?;
+    io::writer(rt).write_all(answer.as_slice())?;
+    println!(rt; "the browser's connection is over")?;
+    Ok(())
+}
+
 /// Runs the program over `listen` at these addresses.
 pub fn collect<R>(rt: &R, peers: SocketAddr, admin: SocketAddr) -> Result<u8>
 where
@@ -257,6 +272,7 @@ pub fn show(rt: &HostRuntime, peers: SocketAddr, admin: SocketAddr) -> Result<()
     ask(rt, rt.alloc(), &asking, b"clear table t key 10.0.0.2\n")?;
     ask(rt, rt.alloc(), &asking, b"show table\n")?;
     ask_status(rt, rt.alloc(), &asking)?;
+    browse(rt, admin)?;
     ask_by_socket(rt)?;
     call_again(rt, peers, &peer)
 }
