@@ -9,8 +9,9 @@ Admins send lines without an end, or nothing, drip them, never read, or stay for
 aren't configured, standard error takes nothing, and the peers' listener breaks. Where a filter is pushed, proxies read
 nothing, ask for all of it all the time, or answer what nobody said. Memory runs out while rows are shown, browsers send
 HTTP to the admin address, the system refuses threads, the Unix socket is looked at as it comes, and lines are provoked
-by the thousand. Signals and ports that are taken are tried too. The last line counts passed and failed; the status is 1
-where one failed. It takes about six minutes. tools/attack.py has the same and more with figures.
+by the thousand. The clock's thread stands still, the whole process is stopped, and standard streams are closed. Signals
+and ports that are taken are tried too. The last line counts passed and failed; the status is 1 where one failed. It
+takes about seven minutes. tools/attack.py has the same and more with figures.
 """
 
 import argparse
@@ -31,6 +32,7 @@ from lib.collector import COLLECTOR, CONFIG, REPOSITORY, Collector, free_ports
 from lib.peers_protocol import ACK as ACKNOWLEDGED, DEFINE as DEFINITION, SWITCH, UPDATES
 from lib.peers_protocol import Feeder, message, messages, put_int
 from lib.report import Report
+from lib.stopping import seconds_to_end, stop_thread, threads_of
 from lib.surviving import cleared, closed_of, config, few_threads, flooded, look_at, unserved, until_closed
 from lib.told import Proxied
 
@@ -610,6 +612,29 @@ def starving(report, options):
 
 def browsers(report, options):
     """HTTP comes to the admin address, with a command in its body."""
+    def said_to(data, path=None):
+        """What bytes are answered, sent over TCP or by a socket."""
+        if path is None:
+            admin = call(collector.admin, data, timeout=2)
+        else:
+            admin = socket.socket(socket.AF_UNIX)
+            admin.settimeout(2)
+            admin.connect(path)
+            admin.sendall(data)
+        with admin:
+            return until_closed(admin)
+
+    def behind(data, path=None):
+        """Whether a question in front is answered, and then the connection is closed."""
+        wanted = collector.ask("show table t").encode() + b"\n"
+        said = said_to(b"show table t\n" + data, path)
+        return "" if said == (wanted, True) else said
+
+    def goes_on(data):
+        """Whether such a line is no more than refused."""
+        said, is_closed = said_to(data + b"\nquit\n")
+        return "" if said.startswith(b"refused ") and is_closed else (said, is_closed)
+
     def posted(head):
         with call(collector.admin, head + b"Host: x\r\n\r\nclear table t\n", timeout=2) as browser:
             said, is_closed = until_closed(browser)
@@ -621,6 +646,72 @@ def browsers(report, options):
         for head in (b"POST / HTTP/1.1\r\n", b"GET /x HTTP/1.0\r\n", b"origin: http://evil.example\r\n"):
             report.check(f"{head[:12]!r} at the admin address is closed without an answer, and does nothing", 1,
                          lambda: posted(head))
+        for data in (b"OPTIONS * HTTP/1.1\r\n\r\n", b"HoSt: x\r\nclear table t\n", b"GET " + b"x" * 20_000 + b"\n"):
+            report.check(f"what stands before {data[:12]!r} is answered, and nothing behind it", 1,
+                         lambda: behind(data))
+        for data in (b" GET / HTTP/1.1", b"get / HTTP/1.1", b"GETS / HTTP/1.1", b"Hosts: x", b"show GET "):
+            report.check(f"{data[:12]!r} is a line that is refused", 1, lambda: goes_on(data))
+    with tempfile.TemporaryDirectory() as folder, tempfile.TemporaryFile() as log:
+        path = f"{folder}/admin"
+        with Collector.of(options.collector, config(["p"]), options=["--admin-socket", path], log=log) as collector:
+            report.check("so it is by the socket", 1, lambda: behind(b"TRACE / HTTP/1.1\n", path))
+            for _ in range(100):
+                said_to(b"GET / HTTP/1.1\r\nHost: x\r\n\r\n")
+            time.sleep(1)
+        log.seek(0)
+        told = [line for line in log.read().splitlines() if b" warn http at the admin address" in line]
+        report.check("100 browsers write 60 lines a minute", 1,
+                     lambda: "" if len(told) == 60 and b" address=127.0.0.1:" in told[-1] else (len(told), told[-1:]))
+
+
+def standing(report, options):
+    """The clock's thread stands still, and then a whole process that goes on."""
+    with tempfile.TemporaryFile() as log:
+        with Collector.of(options.collector, config(["p"]), log=log) as collector:
+            time.sleep(1)
+            clock = threads_of(collector.process.pid)[3]
+            try:
+                stop_thread(clock)
+            except OSError as fault:
+                print(f"skipped the clock's thread: {fault}")
+                return
+            took = seconds_to_end(collector.process, clock, 25)
+            status = collector.process.poll()
+        log.seek(0)
+        told = log.read()
+    report.check("a collector whose clock stands still ends with status 5 within 17 s", 1,
+                 lambda: "" if took and 9 < took < 17 and status == 5 else (took, status))
+    report.check("and says why", 1, lambda: "" if b' error stuck reason="the clock' in told
+                 and told.splitlines()[-1].startswith(b"stuck: the clock") else told)
+    with Collector.of(options.collector, config(["later"])) as collector:
+        collector.process.send_signal(signal.SIGSTOP)
+        time.sleep(14)
+        collector.process.send_signal(signal.SIGCONT)
+        report.check("one that was stopped for 14 s goes on", 8, lambda: unserved(collector, "later"))
+        time.sleep(3)
+        report.check("and doesn't end", 1, lambda: "" if collector.process.poll() is None else collector.process.poll())
+
+
+def closed_streams(report, options):
+    """Standard input, output or error is closed at the start."""
+    def closing(*closed):
+        return lambda: [os.close(one) for one in closed]
+
+    with tempfile.NamedTemporaryFile("w", suffix=".conf") as text:
+        text.write(config(["later"]))
+        text.flush()
+        for closed in ((0,), (2,), (0, 2)):
+            with Collector.of(options.collector, "", ["--config", text.name], preexec_fn=closing(*closed)) as collector:
+                found = [os.readlink(f"/proc/{collector.process.pid}/fd/{one}") for one in closed]
+                report.check(f"closed descriptors {closed} are given to no listener", 1,
+                             lambda: "" if set(found) == {"/dev/null"} else found)
+                report.check("and a peer is served", 8, lambda: unserved(collector, "later"))
+        words = [str(options.collector), "listen", "--config", text.name]
+        for option, port in zip(("--peers", "--admin"), free_ports(2)):
+            words += [option, f"127.0.0.1:{port}"]
+        done = subprocess.run(words, stderr=subprocess.PIPE, timeout=20, preexec_fn=closing(1))
+        report.check("a closed standard output ends it with status 5", 1,
+                     lambda: "" if done.returncode == 5 and b"cannot start: " in done.stderr else done)
 
 
 def threadless(report, options):
@@ -763,8 +854,8 @@ def misbehaving(report, collector, feeder, proxy):
                  lambda: "" if collector.resident() < 120_000_000 else collector.resident())
 
 
-PARTS = (scarce, starving, browsers, threadless, socket_modes, floods, elsewhere, unknown, mute, broken, pushing, checking,
-         surroundings)
+PARTS = (scarce, starving, browsers, standing, closed_streams, threadless, socket_modes, floods, elsewhere, unknown,
+         mute, broken, pushing, checking, surroundings)
 
 
 def main():
