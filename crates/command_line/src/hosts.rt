@@ -14,11 +14,17 @@ fn is_host_byte(byte: u8) -> bool
     byte.is_ascii_alphanumeric() || byte == b'-' || byte == b'.' || byte == b'_'
 }
 
+fn are_host_bytes(text: &[u8]) -> bool
+    ensures { result ≡ list_all is_host_byte text.now }
+{
+    text.iter().all(|byte| is_host_byte(*byte))
+}
+
 // One or more letters, digits, `-`, `.` and `_`.
 fn is_host_name(text: &[u8]) -> bool
     ensures { result ≡ is_host_name text.now }
 {
-    !text.is_empty() && text.iter().all(|byte| is_host_byte(*byte))
+    !text.is_empty() && are_host_bytes(text)
 }
 
 // Whether each text is a host's name.
