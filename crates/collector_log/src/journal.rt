@@ -1,5 +1,6 @@
 //! The lines of the log, on their way to standard error.
 
+use crate::floods::{CountLine, Floods, LeftOut};
 use crate::log::{Event, Line};
 use sockets::is_due;
 use std::alloc::{AllocError, Global};
@@ -42,11 +43,13 @@ impl Waiting {
 /// The log: lines that wait for standard error.
 ///
 /// Whoever notes an event never waits for standard error, only for others that note one. At most
-/// 1,000 lines wait. What doesn't fit is counted, and told once lines can be written again.
+/// 1,000 lines wait. What doesn't fit is counted, and told once lines can be written again. Of
+/// what strangers or one peer can repeat, 60 lines a minute are told, and the others counted.
 #[derive(Drop)]
 pub struct Journal {
     alloc: Global,
     waiting: Mutex<Waiting>,
+    floods: Mutex<Floods>,
 }
 
 // The seconds since 1970. A clock that fails gives 0.
@@ -56,6 +59,14 @@ fn seconds_now(rt: &impl Clock) -> u64 {
     };
     match now.duration_since(UNIX_EPOCH) {
         Ok(passed) => passed.as_secs(),
+        Err(_) => 0,
+    }
+}
+
+// The moment of a clock that goes on, in ms. A clock that fails gives 0.
+fn moment_now(rt: &impl Clock) -> u64 {
+    match rt.monotonic() {
+        Ok(passed) => u64::try_from(passed.as_millis()).unwrap_or(u64::MAX),
         Err(_) => 0,
     }
 }
@@ -72,6 +83,7 @@ impl Journal {
                 is_writing: false,
                 is_over: false,
             }),
+            floods: Mutex::new(Floods::new(alloc)),
         }
     }
 
@@ -81,9 +93,32 @@ impl Journal {
         format!(in self.alloc; "{line}")
     }
 
+    // Whether the line of an event is to be told. It is counted else.
+    fn may_tell<R: Clock + Wait>(&self, rt: &R, event: Event<'_>) -> bool {
+        let now = moment_now(rt);
+        let mut guard = self.floods.lock(rt);
+        let floods = &mut *guard;
+        floods.may_tell(now, event)
+    }
+
+    // What was left out and is to be told by a moment, in ms, if there is something.
+    fn take_left_out<R: Wait>(&self, rt: &R, now: u64) -> Option<LeftOut> {
+        let mut guard = self.floods.lock(rt);
+        let floods = &mut *guard;
+        floods.take_due(now)
+    }
+
     /// The line of an event waits from now on. It is lost where 1,000 wait, or memory is lacking.
+    /// It is left out and counted where too many like it were told.
     pub fn note<R: Clock + Wait>(&self, rt: &R, event: Event<'_>) {
-        let line = self.line(seconds_now(rt), event);
+        if self.may_tell(rt, event) {
+            let line = self.line(seconds_now(rt), event);
+            self.keep(rt, line, 1);
+        }
+    }
+
+    // A line waits from now on, which stands for so many. These are lost where 1,000 wait.
+    fn keep<R: Wait>(&self, rt: &R, line: Result<String, AllocError>, count: u64) {
         let mut guard = self.waiting.lock(rt);
         let waiting = &mut *guard;
         let is_kept = match line {
@@ -91,7 +126,7 @@ impl Journal {
             Err(_fault) => false,
         };
         if !is_kept {
-            waiting.lost = waiting.lost.saturating_add(1);
+            waiting.lost = waiting.lost.saturating_add(count);
         }
     }
 
@@ -138,10 +173,28 @@ impl Journal {
         }
     }
 
-    /// Writes the lines that wait, and how many were lost.
+    // Tells what was left out, where that is to be told now.
+    fn tell_left_out<R: Eprint + Clock + Wait>(&self, rt: &R) {
+        let now = moment_now(rt);
+        for _ in 0..u64::MAX {
+            let Some(left_out) = self.take_left_out(rt, now) else {
+                return;
+            };
+            let line = CountLine {
+                seconds: seconds_now(rt),
+                left_out: &left_out,
+            };
+            if eprintln!(rt; "{line}").is_err() {
+                self.lose(rt, left_out.count());
+            }
+        }
+    }
+
+    /// Writes the lines that wait, how many were left out, and how many were lost.
     pub fn write_out<R: Eprint + Clock + Wait>(&self, rt: &R) {
         for _ in 0..u64::MAX {
             self.tell_lost(rt);
+            self.tell_left_out(rt);
             let Some(line) = self.take_line(rt) else {
                 return;
             };
@@ -176,8 +229,26 @@ impl Journal {
         guard.lines.is_empty() && !guard.is_writing
     }
 
+    // The line of what was left out.
+    fn count_line(&self, seconds: u64, left_out: &LeftOut) -> Result<String, AllocError> {
+        let line = CountLine { seconds, left_out };
+        format!(in self.alloc; "{line}")
+    }
+
+    // All that was left out so far waits as lines.
+    fn keep_left_out<R: Clock + Wait>(&self, rt: &R) {
+        for _ in 0..u64::MAX {
+            let Some(left_out) = self.take_left_out(rt, u64::MAX) else {
+                return;
+            };
+            let line = self.count_line(seconds_now(rt), &left_out);
+            self.keep(rt, line, left_out.count());
+        }
+    }
+
     // No line comes any more.
-    fn end<R: Wait>(&self, rt: &R) {
+    fn end<R: Clock + Wait>(&self, rt: &R) {
+        self.keep_left_out(rt);
         let mut guard = self.waiting.lock(rt);
         let waiting = &mut *guard;
         waiting.is_over = true;

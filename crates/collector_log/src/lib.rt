@@ -3,13 +3,15 @@
 //! `listening` gives `Notes` to the workers of `serve`, which tell it who came and went, what was
 //! posted and which tables were defined. It writes what is worth a line into the `Journal`, and
 //! counts on the `Board` what `show info`, `show peers` and `show peers <peer>` answer. `Watch`
-//! looks at the book for full tables, and `CollectorFacts` is what the HTTP door shows. Nothing
+//! looks at the book for full tables, and `CollectorFacts` is what the HTTP door shows. Lines that
+//! come in floods are told 60 times a minute of each source, and counted else (`throttle`). Nothing
 //! here is promised but that it is safe. What the lines of the log say, test_program prints.
 #![tactic(auto)]
 
 mod alarms;
 mod board;
 mod facts;
+mod floods;
 mod fullness;
 mod journal;
 mod judging;

@@ -99,8 +99,8 @@ pub enum Event<'a> {
 }
 
 impl<'a> Event<'a> {
-    // How much an operator has to care, and what happened.
-    fn words(&self) -> &'static str {
+    /// How much an operator has to care, and what happened.
+    pub(crate) fn words(&self) -> &'static str {
         match self {
             Event::Listening { .. } => "info listening",
             Event::PeerConnected { .. } => "info peer connected",
@@ -211,8 +211,8 @@ impl<'a> fmt::Display for Line<'a> {
     }
 }
 
-// The time in UTC. A clock that is wrong by ages gives its seconds.
-fn write_time<W: fmt::Write>(seconds: u64, f: &mut fmt::Formatter<W>) -> fmt::Result {
+/// Writes the time in UTC. A clock that is wrong by ages gives its seconds.
+pub(crate) fn write_time<W: fmt::Write>(seconds: u64, f: &mut fmt::Formatter<W>) -> fmt::Result {
     if let Ok(seconds) = i64::try_from(seconds) {
         if let Ok(time) = Timestamp::from_second(seconds) {
             return write!(f, "{time}");

@@ -124,6 +124,7 @@ fn show_lines<R: Print + Wait + Copy + AllocGlobal>(
     notes.journal.write_out(&notes.rt);
     show_moments(rt);
     show_crowd(rt);
+    show_floods(rt);
     full::show(rt, notes)
 }
 
@@ -240,11 +241,59 @@ fn show_crowd<R: Print + Wait + Copy + AllocGlobal>(rt: &R) {
         seconds: Some(MORNING),
     };
     for _ in 0..1005 {
-        journal.note(&handles, Event::PeerConnected { peer: b"lb1" });
+        journal.note(&handles, Event::AdminTurnedAway { address: None });
     }
     let few = Few::new(handles, 3);
     journal.write_out(&few);
     let _ = println!(rt; "{} more lines", few.refused());
+}
+
+/// What is written of lines that come in floods, of which all but the first are cut off here: 60 of
+/// a peer, 60 of 64 bits of an address, and 600 of all addresses. And how many others there were,
+/// 59 s later.
+fn show_floods<R: Print + Wait + Copy + AllocGlobal>(rt: &R) {
+    let journal = Journal::new(rt.alloc());
+    let handles = Still {
+        rt: *rt,
+        seconds: Some(MORNING),
+    };
+    for _ in 0..63 {
+        journal.note(&handles, Event::PeerConnected { peer: b"a=b" });
+    }
+    for host in 0..62 {
+        let ip = Ipv6Addr::new(0x2001, 0xdb8, 0, 1, 0, 0, 0, host);
+        let caller = SocketAddr::V6(SocketAddrV6::new(ip, 41234, 0, 0));
+        flood(&journal, &handles, caller, None);
+    }
+    for host in 0..12 {
+        for port in 0..60 {
+            let ip = Ipv4Addr::new(10, 0, 1, host);
+            let caller = SocketAddr::V4(SocketAddrV4::new(ip, port));
+            flood(&journal, &handles, caller, Some(&Cause::Read));
+        }
+    }
+    let few = Few::new(handles, 1);
+    journal.write_out(&few);
+    let _ = println!(rt; "{} more lines", few.refused());
+    let later = Still {
+        rt: *rt,
+        seconds: Some(MORNING + 59),
+    };
+    journal.write_out(&later);
+}
+
+fn flood(
+    journal: &Journal,
+    clock: &(impl Clock + Wait),
+    caller: SocketAddr,
+    cause: Option<&Cause>,
+) {
+    let stranger = Event::StrangerGone {
+        name: None,
+        address: Some(caller),
+        cause,
+    };
+    journal.note(clock, stranger);
 }
 
 /// The same line at odd moments, and where the clock fails.

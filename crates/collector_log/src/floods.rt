@@ -1,0 +1,160 @@
+//! Lines that come in floods: which are told, and what is told in place of the others.
+
+use crate::log::{Event, Value, write_time};
+use std::alloc::Global;
+use std::net::{IpAddr, Ipv6Addr, SocketAddr};
+use std::{fmt, str};
+use throttle::{Counted, Throttle};
+
+/// The events that strangers or one peer can repeat, by what their lines begin with.
+const REPEATED: [&str; 10] = [
+    "warn connection ended",
+    "info connection closed without a hello",
+    "info peer connected",
+    "info peer disconnected",
+    "warn peer ended",
+    "info peer replaced",
+    "warn table not followed",
+    "warn rate not followed",
+    "warn columns skipped",
+    "warn http at the admin address",
+];
+
+/// How many lines of one kind of event were left out.
+#[derive(Drop)]
+pub(crate) struct LeftOut {
+    // what its lines begin with
+    words: &'static str,
+    counted: Counted,
+}
+
+impl LeftOut {
+    /// How many lines these are.
+    pub fn count(&self) -> u64 {
+        self.counted.count
+    }
+
+    // What they are about, as their lines say it.
+    fn source(&self) -> &str {
+        match &self.counted.source {
+            None => "",
+            Some(source) => str::from_utf8(source.as_slice()).unwrap_or(""),
+        }
+    }
+}
+
+/// The line in place of those that were left out, at a time, in seconds since 1970, without its LF.
+#[derive(Clone, Copy)]
+pub(crate) struct CountLine<'a> {
+    pub seconds: u64,
+    pub left_out: &'a LeftOut,
+}
+
+impl<'a> fmt::Display for CountLine<'a> {
+    fn fmt<W: fmt::Write>(&self, f: &mut fmt::Formatter<W>) -> fmt::Result {
+        write_time(self.seconds, f)?;
+        let left_out = self.left_out;
+        let (words, source) = (left_out.words, left_out.source());
+        write!(f, " {words}{source} count={}", left_out.count())
+    }
+}
+
+/// What is remembered of the lines that come in floods.
+#[derive(Drop)]
+pub(crate) struct Floods {
+    alloc: Global,
+    throttles: [Throttle; 10],
+}
+
+impl Floods {
+    /// No line came yet. Takes no memory.
+    pub fn new(alloc: Global) -> Floods {
+        Floods {
+            alloc,
+            throttles: [
+                Throttle::new(alloc),
+                Throttle::new(alloc),
+                Throttle::new(alloc),
+                Throttle::new(alloc),
+                Throttle::new(alloc),
+                Throttle::new(alloc),
+                Throttle::new(alloc),
+                Throttle::new(alloc),
+                Throttle::new(alloc),
+                Throttle::new(alloc),
+            ],
+        }
+    }
+
+    /// Whether the line of an event at a moment, in ms, is to be told. It is counted else.
+    pub fn may_tell(&mut self, now: u64, event: Event<'_>) -> bool {
+        let words = event.words();
+        let Some(kind) = REPEATED.iter().position(|repeated| *repeated == words) else {
+            return true;
+        };
+        let Some(throttle) = self.throttles.get_mut(kind) else {
+            return true;
+        };
+        let source = Source(event);
+        match format!(in self.alloc; "{source}") {
+            Ok(source) => throttle.offer(now, source.as_bytes()),
+            Err(_fault) => {
+                throttle.leave_out(now);
+                false
+            }
+        }
+    }
+
+    /// Takes a count that is to be told by now, in ms, if there is one.
+    pub fn take_due(&mut self, now: u64) -> Option<LeftOut> {
+        for kind in 0..REPEATED.len() {
+            let throttle = self.throttles.get_mut(kind)?;
+            if let Some(counted) = throttle.take_due(now) {
+                let words = *REPEATED.get(kind)?;
+                return Some(LeftOut { words, counted });
+            }
+        }
+        None
+    }
+}
+
+// What an event is about, as its line says it: a peer, or an address without its port. Nothing
+// where its address isn't known.
+#[derive(Clone, Copy)]
+struct Source<'a>(Event<'a>);
+
+impl<'a> fmt::Display for Source<'a> {
+    fn fmt<W: fmt::Write>(&self, f: &mut fmt::Formatter<W>) -> fmt::Result {
+        match self.0 {
+            Event::PeerConnected { peer }
+            | Event::TableUnfollowed { peer, .. }
+            | Event::RateUnfollowed { peer, .. }
+            | Event::ColumnsSkipped { peer, .. }
+            | Event::PeerGone { peer, .. }
+            | Event::PeerReplaced { peer, .. } => write!(f, " peer={}", Value(peer)),
+            Event::StrangerGone {
+                address: Some(address),
+                ..
+            } => write!(f, " address={}", Network(address)),
+            _ => Ok(()),
+        }
+    }
+}
+
+// An address without its port; of an IPv6 one its first 64 bits. One that stands for an IPv4
+// address is that.
+#[derive(Clone, Copy)]
+struct Network(SocketAddr);
+
+impl fmt::Display for Network {
+    fn fmt<W: fmt::Write>(&self, f: &mut fmt::Formatter<W>) -> fmt::Result {
+        match self.0.ip().to_canonical() {
+            IpAddr::V4(ip) => write!(f, "{ip}"),
+            IpAddr::V6(ip) => {
+                let [a, b, c, d, ..] = ip.segments();
+                let network = Ipv6Addr::new(a, b, c, d, 0, 0, 0, 0);
+                write!(f, "{network}/64")
+            }
+        }
+    }
+}
