@@ -8,8 +8,8 @@ example. The comment right above says what is done with it, and a block without 
 
     run             lines that begin with `$ ` are commands of a shell, and the lines below one are what it prints. A
                     block without `$ ` is commands alone, each of which has to end with status 0
-    run exact       the same, and numbers count; `run unordered`, and the order of lines doesn't
-    asked           lines that begin with `> ` are commands for the collector's admin socket; `asked unordered`
+    run exact       the same, and numbers count; with `unordered`, the order of lines doesn't
+    asked           lines that begin with `> ` are commands for the collector's admin socket
     start           a command that goes on running and prints `listening`
     file NAME       the text of a file that later commands read; `file NAME more` is written behind what it has
     check           lines of a configuration: `aggregator check` says `ok` of them behind the page's fleet.conf
@@ -381,7 +381,8 @@ def main():
     ends_cleanly()
     pages = [run_page(name, options.collector.resolve(), options.show) for name in options.pages]
     failed = sum(page.failed for page in pages)
-    print(f"{sum(page.passed for page in pages)} passed, {failed} failed, {sum(page.left_out for page in pages)} not run")
+    passed, left_out = sum(page.passed for page in pages), sum(page.left_out for page in pages)
+    print(f"{passed} passed, {failed} failed, {left_out} not run")
     return 1 if failed else 0
 
 

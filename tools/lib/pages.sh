@@ -61,8 +61,8 @@ ssh() {
     (HOST=$host; eval "$text")
 }
 
-# The configuration of a proxy: the page's haproxy.cfg, or CFG, behind what each has. In its section `peers fleet` lb1 and
-# that one's address are this proxy's; a comment `# ..` stands for what its frontend has already.
+# The configuration of a proxy: the page's haproxy.cfg, or CFG_FILE, behind what each has. In its section `peers fleet`
+# lb1 and that one's address are this proxy's; a comment `# ..` stands for what its frontend has already.
 cfg_of() {
     local own=LB${1#lb} http=LB${1#lb}_HTTP
     {
