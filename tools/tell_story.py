@@ -3,8 +3,8 @@
 
     tell_story.py [PROGRAM]
 
-./try runs this once what it wants is there. PROGRAM is crates/aggregator/out/aggregator unless another is named. Where
-none stands, the sources run without a proof by `rt try`, which takes some minutes, and says so every ten seconds. All
+./try runs this once what it wants is there. PROGRAM is crates/aggregator/out/aggregator, or `aggregator` on the path,
+unless another is named. Where none stands, the sources run without a proof by `rt try`, which takes some minutes, and says so every ten seconds. All
 addresses are free ones of this machine, and all processes end with it. Where `rt try` can't run them, the program is
 proved and linked first. The status is 0 where both proxies refused the client and served another, and else 1.
 """
@@ -216,18 +216,25 @@ def ending(program, is_built):
     return f"Every function of this program was proved: {found['verdict']}, {which}."
 
 
+def installed():
+    """The program that ./build made, or else one on the path, as a package puts there."""
+    found = shutil.which("aggregator")
+    return stamp.PROGRAM if os.access(stamp.PROGRAM, os.X_OK) or not found else pathlib.Path(found)
+
+
 def main():
     words = argparse.ArgumentParser(description=__doc__, formatter_class=argparse.RawDescriptionHelpFormatter)
     words.add_argument("program", nargs="?", type=pathlib.Path, help="the program that is tried")
     options = words.parse_args()
-    program = options.program or stamp.PROGRAM
+    program = options.program or installed()
     is_built = os.access(program, os.X_OK)
     if options.program and not is_built:
         words.error(f"{program} isn't a program")
     if not shutil.which(HAPROXY):
         words.error(f"{HAPROXY} isn't there")
     if not is_built and not shutil.which("rt"):
-        sys.exit("No program is built, and rt, the command of the Rattle kit that README.md names, isn't on the path.")
+        sys.exit("No program is built or installed, and rt, the command of the Rattle kit that README.md names, isn't on the "
+                 "path. With a program elsewhere: ./try PROGRAM")
     signal.signal(signal.SIGTERM, lambda *_: sys.exit(143))
     # A shell that starts this in the background lets it ignore SIGINT.
     signal.signal(signal.SIGINT, signal.default_int_handler)
