@@ -94,6 +94,7 @@ def greet(address):
     """Waits for the proxy to connect and answers its hello. The connection, and the hello."""
     host, port = address.rsplit(":", 1)
     with socket.create_server((host, int(port))) as listener:
+        print(f"waits at {address} for a proxy that names it as a peer", file=sys.stderr)
         peer, _ = listener.accept()
     hello = b""
     while hello_length(hello) is None:
@@ -187,8 +188,11 @@ def main():
     arguments = parser.parse_args()
     if arguments.explain:
         explain(sys.stdin)
-    else:
+        return
+    try:
         record(arguments)
+    except OSError as fault:
+        sys.exit(f"{fault.filename or arguments.listen}: {fault.strerror or fault}")
 
 
 if __name__ == "__main__":
