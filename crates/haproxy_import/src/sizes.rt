@@ -83,7 +83,7 @@ fn two_periods(shape: &Shape) -> Option<u64> {
     if longest == 0 {
         None
     } else {
-        Some(2 * u64::from(longest))
+        Some(u64::from(longest).saturating_mul(2))
     }
 }
 
