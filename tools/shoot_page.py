@@ -136,8 +136,11 @@ class Browser:
                 return answer["result"]
 
     def says(self, expression):
-        """The value of an expression in the page."""
-        return self.tell("Runtime.evaluate", expression=expression)["result"].get("value")
+        """The value of an expression in the page; none while another page comes."""
+        try:
+            return self.tell("Runtime.evaluate", expression=expression)["result"].get("value")
+        except RuntimeError:
+            return None
 
     def shoot(self, address, size, scheme, picture, seconds=8):
         """A picture of an address, so long after it shows a fleet; as high as the page is, but no higher than this."""
