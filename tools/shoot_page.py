@@ -103,7 +103,7 @@ class Browser:
                                         pass_fds=(read, write), stdout=subprocess.DEVNULL, stderr=subprocess.DEVNULL)
         os.close(read)
         os.close(write)
-        self.answers, self.page = os.fdopen(self.inside, "rb"), None
+        self.unread, self.page = b"", None
         target = self.tell("Target.createTarget", url="about:blank")["targetId"]
         self.page = self.tell("Target.attachToTarget", targetId=target, flatten=True)["sessionId"]
 
@@ -123,13 +123,13 @@ class Browser:
             message["sessionId"] = self.page
         os.write(self.out, json.dumps(message).encode() + b"\0")
         while True:
-            text = b""
-            while not text.endswith(b"\0"):
-                more = self.answers.read(1)
+            while b"\0" not in self.unread:
+                more = os.read(self.inside, 1 << 20)
                 if not more:
                     raise EOFError("the browser ended")
-                text += more
-            answer = json.loads(text[:-1])
+                self.unread += more
+            text, _, self.unread = self.unread.partition(b"\0")
+            answer = json.loads(text)
             if answer.get("id") == self.number:
                 if "error" in answer:
                     raise RuntimeError(f"{method}: {answer['error']['message']}")
