@@ -73,7 +73,7 @@ PLACES = [
     ("MOST_CONDS", "docs/HTTP.md", r"up to (\w+) conditions"),
     ("MOST_CONDS + 1", "docs/COMMANDS.md", r"\| a (\w+) condition \|"),
     ("MOST_CONDS + 1", "docs/CONFIGURATION.md", r"`store`; a (\w+) condition"),
-    ("MOST_PEERS", "docs/CONFIGURATION.md", r"peers beyond (\d+)"),
+    ("MOST_PEERS", "docs/CONFIGURATION.md", r"(?:peers|those) beyond (\d+)"),
     ("PERIOD_END - 1", "docs/CONFIGURATION.md", r"period in ms, 1 to (\d+)"),
     ("PERIOD_END - 1", "docs/CONFIGURATION.md", r"a period of 0 or above (\d+)"),
     ("HOLD_END - 1", "docs/CONFIGURATION.md", r"a hold of [\d,]+ to (\d+)"),

@@ -16,7 +16,7 @@ example. The comment right above says what is done with it, and a block without 
     in FILE         each line stands in this file of the repository
     replay          a script of `aggregator replay`; `prints`, above the next block, is what it prints, and
                     `prints FILE` what this file prints
-    not run: WHY    nothing
+    not run: WHY    nothing; `section not run: WHY` holds for all blocks up to the next heading that have no comment
     sh COMMAND      no block: a command that the reader isn't shown
     take PAGE       no block: the files of another page
 
@@ -98,21 +98,24 @@ def is_block(lines, at):
 
 def examples(text):
     """The examples of a page, in order; what is done with an unmarked one is empty."""
-    lines, at, mark, found = text.splitlines(), 0, "", []
+    lines, at, mark, found, section = text.splitlines(), 0, "", [], ""
     while at < len(lines):
         comment = COMMENT.fullmatch(lines[at].strip())
         if comment and is_alone(comment[1]):
             found.append(Example(comment[1], at + 1, []))
+        elif comment and comment[1].startswith("section "):
+            section = comment[1].removeprefix("section ")
         elif comment:
             mark = comment[1]
         elif is_block(lines, at):
             start = at
             block, at = block_from(lines, at)
-            found.append(Example(mark, start + 1, block))
+            found.append(Example(mark or section, start + 1, block))
             mark = ""
             continue
         elif lines[at].strip():
             mark = ""
+            section = "" if lines[at].startswith("## ") else section
         at += 1
     return found
 
