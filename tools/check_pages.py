@@ -16,7 +16,8 @@ example. The comment right above says what is done with it, and a block without 
     in FILE         each line stands in this file of the repository
     replay          a script of `aggregator replay`; `prints`, above the next block, is what it prints, and
                     `prints FILE` what this file prints
-    not run: WHY    nothing; `section not run: WHY` holds for all blocks up to the next heading that have no comment
+    not run: WHY    nothing
+    section ..      holds for all blocks up to the next heading that have no comment: `section not run: WHY`
     sh COMMAND      no block: a command that the reader isn't shown
     take PAGE       no block: the files of another page
 
@@ -26,8 +27,8 @@ and a line `..` for any lines; addresses of clients and names count, and so do n
 free addresses: those that the page names are put in place of the real ones, in both directions. A question (`show`,
 `curl`) is asked again for some seconds, since proxies push a moment later. `--show` prints each command.
 
-It wants bash, Debian's haproxy (or HAPROXY=/another/haproxy), curl, nc of netcat-openbsd, socat and openssl. The last
-line counts; the status is 1 where an example failed. Nothing is left behind.
+It wants bash, Debian's haproxy (or HAPROXY=/another/haproxy), curl, nc of netcat-openbsd, socat, pgrep and openssl. The
+last line counts; the status is 1 where an example failed. Nothing is left behind.
 """
 
 import argparse
@@ -380,7 +381,7 @@ def main():
     words.add_argument("--show", action="store_true", help="print each command")
     options = words.parse_args()
     haproxy = os.environ.get("HAPROXY") or "haproxy"
-    wants("bash", haproxy, "curl", "nc", "socat", "openssl", program=options.collector)
+    wants("bash", haproxy, "curl", "nc", "socat", "openssl", "pgrep", program=options.collector)
     ends_cleanly()
     pages = [run_page(name, options.collector.resolve(), options.show) for name in options.pages]
     failed = sum(page.failed for page in pages)

@@ -6,7 +6,7 @@ import shutil
 import signal
 import sys
 
-PACKAGES = {"nc": "netcat-openbsd", "promtool": "prometheus"}
+PACKAGES = {"nc": "netcat-openbsd", "promtool": "prometheus", "pgrep": "procps"}
 BUILD = "./build proves and links it"
 
 

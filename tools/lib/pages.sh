@@ -41,10 +41,23 @@ stop_collector() {
     collector=
 }
 
+# Has a proxy's master start a new worker, and waits until that one is alone: what the old one counts isn't pushed.
+reload_proxy() {
+    local old
+    old=$(pgrep -P "$1")
+    kill -USR2 "$1"
+    until_it has_new_worker "$1" "$old"
+}
+
+has_new_worker() {
+    local now
+    now=$(pgrep -P "$1") && [ "$(echo "$now" | wc -l)" = 1 ] && [ "$now" != "$2" ]
+}
+
 # The service is the page's collector, or, where it is named, the proxy on which `ssh` runs the command.
 systemctl() {
     case "$*" in
-        *haproxy*) cfg_of "$HOST" && kill -USR2 "$(cat "$DIR/$HOST.pid")" && sleep 1 ;;
+        *haproxy*) cfg_of "$HOST" && reload_proxy "$(cat "$DIR/$HOST.pid")" ;;
         start* | enable* | restart*) stop_collector; start_collector ;;
         stop*) stop_collector ;;
         *) echo "systemctl $*: not in the sandbox"; return 1 ;;
