@@ -29,8 +29,8 @@ def stop_thread(thread):
 
 
 def seconds_to_end(process, stopped, most):
-    """The seconds until a process with a stopped thread ends by itself; none where it doesn't in time. Its end is known
-    once the thread's is."""
+    """The seconds until a process with a stopped thread ends by itself. None where it doesn't in time; then the thread
+    goes on. The end of the process is known once the thread's is."""
     start = time.monotonic()
     while time.monotonic() - start < most:
         with contextlib.suppress(ChildProcessError):
@@ -39,4 +39,5 @@ def seconds_to_end(process, stopped, most):
                 process.wait(timeout=5)
                 return took
         time.sleep(0.05)
+    LIBC.ptrace(DETACH, stopped, None, None)
     return None
