@@ -21,8 +21,9 @@ example. The comment right above says what is done with it, and a block without 
     sh COMMAND      no block: a command that the reader isn't shown
     take PAGE       no block: the files of another page
 
-In what is printed a number stands for any number, an address with a port for any, `..` for any text, and a line `..` for
-any lines. Addresses of clients and names count, and so do numbers behind `peers=`, `keys:`, `used:`, `gpc0=` and `_cnt=`.
+In what is printed a number stands for any number, an address with a port for any, `..` for any text, and a line `..`
+for any lines. Addresses of clients and names count, and so do numbers behind `peers=`, `keys:`, `used:`, `gpc0=` and
+`_cnt=`.
 Each page has a collector and proxies of its own, on free addresses: those that the page names are put in place of the
 real ones, in both directions. A question (`show`, `curl`) is asked again for some seconds, since proxies push a moment
 later. `--show` prints each command.
