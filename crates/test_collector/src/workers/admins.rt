@@ -36,6 +36,13 @@ pub fn lens_of<J: Naming, H: Wait + Drop, R: Wait>(rt: &R, hub: &Hub<J, H>) -> O
     hub.lens(rt).ok()
 }
 
+/// A seat of this hub.
+pub fn seat_of<J: Naming, H: Wait + Drop, R: Wait>(rt: &R, hub: &Hub<J, H>) -> Option<Pass>
+    ensures { IfSome result (λ p. SitsDown p × Follows hub.now p.seen) }
+{
+    hub.seat(rt).ok()
+}
+
 /// Serves an admin, and tells what it wrote and how it ended. None without a lens or a seat.
 fn command<J: Naming, H: Wait + Drop, R: Wait>(
     rt: &R,
@@ -51,7 +58,7 @@ fn command<J: Naming, H: Wait + Drop, R: Wait>(
         writer: paper,
     };
     let lens = lens_of(rt, hub)?;
-    let pass = hub.seat(rt).ok()?;
+    let pass = seat_of(rt, hub)?;
     let gate = Turnstile::new(case.looks);
     let context = Context {
         rt,

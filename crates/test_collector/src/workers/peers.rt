@@ -3,6 +3,7 @@
 ghost use Rattle.std.specs.Prelude.{◌≡◌, IfSome};
 ghost use Rattle.hub.specs.Posts.{Follows, SitsDown};
 
+use crate::workers::admins::seat_of;
 use crate::workers::fleet::sum_in;
 use crate::workers::memory::{Script, Step, Turnstile, Watch};
 use crate::workers::paper::{Paper, Pen};
@@ -42,7 +43,7 @@ fn serve<J: Naming, H: Wait + Drop, R: Wait + Clock>(
 fn seat_for<J: Naming, H: Wait + Drop, R: Wait>(rt: &R, hub: &Hub<J, H>, case: Case) -> Option<Pass>
     ensures { IfSome result (λ p. SitsDown p × Follows hub.now p.seen) }
 {
-    if case.seated { hub.seat(rt).ok() } else { None }
+    if case.seated { seat_of(rt, hub) } else { None }
 }
 
 /// Serves a session, and tells what it wrote and how it ended.
