@@ -12,7 +12,7 @@ import sys
 
 MOST = 120
 LARGE = {
-    "peer_rows": 268, "book": 253, "hub": 213, "agg_types": 213, "test_books": 209, "serve": 199, "test_collector": 179,
+    "peer_rows": 268, "book": 253, "hub": 213, "agg_types": 213, "test_books": 209, "serve": 199, "test_collector": 180,
     "place_index": 154, "telling": 148, "session_core": 144, "haproxy_import": 142, "standing_filters": 137, "show_clear": 136,
 }
 HEAD = re.compile(r"^\s*(?:pub(?:\([^)]*\))? )?(?:const )?(?:unsafe )?fn ", re.MULTILINE)
