@@ -218,9 +218,13 @@ def parts(report, port):
 
 def figures(report, collector, port):
     """Figures, as Prometheus reads them."""
-    text = get(port, "/metrics")[2].decode()
     odd = ODD_FILTER.replace("\\", "\\\\").replace('"', '\\"')
     wanted = f'sesamejoist_filter_keys{{filter="{odd}",table="/t"}} {KEYS - 100}\n'
+    # The look that is shared may be from before the rows came: it stays for a second, or ten times what it took.
+    last, text = time.monotonic() + 5, get(port, "/metrics")[2].decode()
+    while wanted not in text and time.monotonic() < last:
+        time.sleep(0.2)
+        text = get(port, "/metrics")[2].decode()
     report.check("a label with a quote and a backslash", 1, lambda: "" if wanted in text else text)
     report.check("the updates of a peer", 1, lambda: "" if f' {KEYS}\n' in text else text)
     for name, told_by in (("the figure", text), ("show info", collector.ask("show info"))):
