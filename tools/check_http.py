@@ -486,8 +486,8 @@ def many(report, port):
         found = []
 
         def work():
-            with Client(port, 30) as client:
-                for _ in range(5):
+            for _ in range(5):
+                with Client(port, 30) as client:
                     answer = client.ask("/api/v1/tables/%2Ft?limit=10000")
                     found.append(answer and answer[0])
         threads = [threading.Thread(target=work) for _ in range(40)]
