@@ -5,7 +5,7 @@ use Rattle.std.proofs.Common.{append-nil}
 use Rattle.std.specs.Prelude.{is_none, slice_get}
 use Rattle.std.specs.List.{list_all}
 use Rattle.agg_types.specs.Check.{all_faults, config_faults, each, filter_faults}
-use Rattle.agg_types.specs.Check.{peer_faults, push_faults, rank_faults, table_faults}
+use Rattle.agg_types.specs.Check.{peer_faults, push_faults, rank_faults, rows_fit, table_faults}
 use Rattle.agg_types.specs.Name.{is_name}
 use Rattle.agg_types.specs.declared.check.ConfigFault.{ConfigFault}
 use Rattle.agg_types.specs.declared.config.Config.{Config}
@@ -13,16 +13,18 @@ use Rattle.agg_types.specs.declared.config.Filter as Filters
 use Rattle.agg_types.specs.declared.config.Push as Pushes
 use Rattle.agg_types.specs.declared.config.Rank as Ranks
 use Rattle.agg_types.specs.declared.config.Shape.{Shape}
-use Rattle.line_words.proofs.Checked.{Faultless, both_none, faultless, filter_fits, no_faults}
-use Rattle.line_words.proofs.Checked.{peer_named, rank_fits, table_fits, table_stands}
+use Rattle.line_words.proofs.Checked.{Faultless, both_none, faultless, filter_fits, no_fault}
+use Rattle.line_words.proofs.Checked.{no_faults, not_not, peer_named, rank_fits, table_fits}
+use Rattle.line_words.proofs.Checked.{table_stands}
 use Rattle.line_words.proofs.WordsBack.{both}
 use Rattle.line_words.specs.Words.{lines_of}
-use Rattle.agg_config.specs.Reading.{Write, declaring, is_me, opening, table_at}
+use Rattle.agg_config.specs.Reading.{Write, bounds_again, declaring, is_me, opening, table_at}
 use Rattle.line_words.specs.Conditions.{have_bounds}
 use Rattle.agg_config.specs.Written.{filter_of, is_valid, is_valid_table, rank_of}
-use Rattle.agg_config.specs.Written.{table_name, text_of}
+use Rattle.agg_config.specs.Written.{rows_declared, table_name, text_of}
 use Rattle.agg_config.specs.declared.declarations.Declaration.{Declaration}
-use Rattle.agg_config.specs.declared.declarations.Declaration.TheVariants.{Me, Peer, Push, Table}
+use Rattle.agg_config.specs.declared.declarations.Declaration.TheVariants.{Me, Peer, Push, Rows}
+use Rattle.agg_config.specs.declared.declarations.Declaration.TheVariants.{Table}
 use Rattle.agg_config.proofs.Finished.{read_none}
 use Rattle.agg_config.proofs.Pushing.{named_filter, push_fits}
 use Rattle.agg_config.proofs.TextBack.{Lead, text_back}
@@ -57,6 +59,7 @@ record Section {A : Type 0} (at : List A → Config) (says : A → Declaration)
   pub valid : (before : List A) (x : A) → fine x ≡ true → faults before x ≡ []
       → is_valid (says x) ≡ true
   pub other : (x : A) → is_me (says x) ≡ false
+  pub once : (before : List A) (x : A) → bounds_again (at before) (says x) ≡ false
   pub makes : (before : List A) (x : A) → faults before x ≡ []
       → declaring (at before) (says x) ≡ at (before ++ x ∷ [])
   pub faultless : (xs : List A) → each faults [] xs ≡ [] → all_faults (at xs) ≡ []
@@ -78,6 +81,7 @@ section at says faults fine s before (x ∷ xs) rest after all none lead =
       record {
         valid = s.valid before x h.0 here;
         other = s.other x;
+        once = s.once before x;
         faultless = ap all_faults makes
             ∙ s.faultless (before ++ x ∷ []) (each-front faults [] (before ++ x ∷ []) xs none_on);
       },
@@ -96,7 +100,7 @@ table_valid : (before : List Shape) (shape : Shape) → table_faults before shap
     → is_valid_table shape ≡ true
 table_valid before shape none =
     let fits = table_fits before shape none in
-    rw (fits.named.valid, fits.length, fits.size, fits.periods, fits.ascend) refl
+    rw (fits.named.valid, fits.length, fits.size, fits.keep, fits.periods, fits.ascend) refl
 
 -- what is found of a table by the name that is written
 record Found (tables : List Shape) (table : ℕ) : Type 0 where
@@ -119,36 +123,46 @@ found tables table some none = found_some tables table (slice_get tables table) 
 
 -- the beginnings of a configuration
 abbrev with_peers : List ℕ → List (List ℕ) → Config
-with_peers me peers =
-    record { me = me; peers = peers; tables = []; filters = []; ranks = []; pushes = [] }
+with_peers me peers = record {
+  me = me;
+  peers = peers;
+  tables = [];
+  filters = [];
+  ranks = [];
+  pushes = [];
+  rows = None;
+}
 
 abbrev with_tables : Config → List Shape → Config
 with_tables config tables =
-    record config { tables = tables; filters = []; ranks = []; pushes = [] }
+    record config { tables = tables; filters = []; ranks = []; pushes = []; rows = None }
 
 abbrev with_filters : Config → List Filters.Filter → Config
-with_filters config filters = record config { filters = filters; ranks = []; pushes = [] }
+with_filters config filters =
+    record config { filters = filters; ranks = []; pushes = []; rows = None }
 
 abbrev with_ranks : Config → List Ranks.Rank → Config
-with_ranks config ranks = record config { ranks = ranks; pushes = [] }
+with_ranks config ranks = record config { ranks = ranks; pushes = []; rows = None }
 
 abbrev with_pushes : Config → List Pushes.Push → Config
-with_pushes config pushes = record config { pushes = pushes }
+with_pushes config pushes = record config { pushes = pushes; rows = None }
 
--- what is followed and what is pushed has no fault
-none_pushed : (config : Config) → Faultless config → config.pushes ≡ [] → all_faults config ≡ []
-none_pushed config h none = rw (no_faults config h, none) refl
+-- what is followed and what is pushed has no fault, nor has a bound that isn't there
+none_pushed : (config : Config) → Faultless config → config.pushes ≡ [] → config.rows ≡ None
+    → all_faults config ≡ []
+none_pushed config h none unbound = rw (no_faults config h, none, unbound) refl
 
 all_pushed : (config : Config) → Faultless config
     → each (push_faults config.tables config.filters) [] config.pushes ≡ []
-    → all_faults config ≡ []
-all_pushed config h none = rw (no_faults config h, none) refl
+    → config.rows ≡ None → all_faults config ≡ []
+all_pushed config h none unbound = rw (no_faults config h, none, unbound) refl
 
 peers_section : (me : List ℕ) → is_name me ≡ true
     → Section (with_peers me) Peer peer_faults (λ name. true)
 peers_section me is = record {
   valid = λ before name fine none. (peer_named before name none).valid;
   other = λ name. refl;
+  once = λ before name. refl;
   makes = λ before name none. refl;
   faultless = λ peers none. none_pushed (with_peers me peers) (record {
     me = is;
@@ -156,7 +170,7 @@ peers_section me is = record {
     tables = refl;
     filters = refl;
     ranks = refl;
-  }) refl;
+  }) refl refl;
 }
 
 tables_section : (config : Config) → Faultless config
@@ -164,6 +178,7 @@ tables_section : (config : Config) → Faultless config
 tables_section config h = record {
   valid = λ before shape fine none. table_valid before shape none;
   other = λ shape. refl;
+  once = λ before shape. refl;
   makes = λ before shape none. refl;
   faultless = λ tables none. none_pushed (with_tables config tables) (record {
     me = h.me;
@@ -171,7 +186,7 @@ tables_section config h = record {
     tables = none;
     filters = refl;
     ranks = refl;
-  }) refl;
+  }) refl refl;
 }
 
 filter_valid : (tables : List Shape) (before : List Filters.Filter) (filter : Filters.Filter)
@@ -217,6 +232,7 @@ filters_section : (config : Config) → Faultless config
 filters_section config h = record {
   valid = λ before filter fine none. filter_valid config.tables before filter h.tables fine none;
   other = λ filter. refl;
+  once = λ before filter. refl;
   makes = λ before filter none. filter_makes config before filter h.tables none;
   faultless = λ filters none. none_pushed (with_filters config filters) (record {
     me = h.me;
@@ -224,7 +240,7 @@ filters_section config h = record {
     tables = h.tables;
     filters = none;
     ranks = refl;
-  }) refl;
+  }) refl refl;
 }
 
 ranks_section : (config : Config) → Faultless config
@@ -233,6 +249,7 @@ ranks_section : (config : Config) → Faultless config
 ranks_section config h = record {
   valid = λ before rank fine none. rank_valid config.tables before rank h.tables none;
   other = λ rank. refl;
+  once = λ before rank. refl;
   makes = λ before rank none. rank_makes config before rank h.tables none;
   faultless = λ ranks none. none_pushed (with_ranks config ranks) (record {
     me = h.me;
@@ -240,7 +257,7 @@ ranks_section config h = record {
     tables = h.tables;
     filters = h.filters;
     ranks = none;
-  }) refl;
+  }) refl refl;
 }
 
 -- a push whose filter is named by that name has a name that may stand
@@ -256,6 +273,7 @@ pushes_section : (config : Config) → Faultless config
 pushes_section config h = record {
   valid = λ before push fine none. push_valid config h before push none;
   other = λ push. refl;
+  once = λ before push. refl;
   makes = λ before push none. refl;
   faultless = λ pushes none. all_pushed (with_pushes config pushes) (record {
     me = h.me;
@@ -263,21 +281,39 @@ pushes_section config h = record {
     tables = h.tables;
     filters = h.filters;
     ranks = h.ranks;
-  }) none;
+  }) none refl;
 }
+
+-- what is declared last is the bound on all rows
+rows_lead : (config : Config) (rows : Option ℕ) → config.rows ≡ rows → all_faults config ≡ []
+    → rows_fit rows ≡ true → Lead (with_pushes config config.pushes) (rows_declared rows) config
+rows_lead config None is none fits = ap (λ rows. record config { rows = rows }) (sym is)
+rows_lead config (Some rows) is none fits =
+    let same : record config { rows = Some rows } ≡ config =
+    ap (λ rows. record config { rows = rows }) (sym is) in (
+      record {
+        valid = fits;
+        other = refl;
+        once = refl;
+        faultless = ap all_faults same ∙ none;
+      },
+      same,
+    )
 
 behind_name : (config : Config) → Faultless config
     → each (push_faults config.tables config.filters) [] config.pushes ≡ []
+    → Lead (with_pushes config config.pushes) (rows_declared config.rows) config
     → list_all (λ filter. have_bounds filter.conds) config.filters ≡ true
     → Lead (with_peers config.me []) (map Peer config.peers ++ (map Table config.tables
     ++ (map (filter_of config.tables) config.filters
-    ++ (map (rank_of config.tables) config.ranks ++ map Push config.pushes)))) config
-behind_name config h pushed bounds =
-    let pushes : Lead (with_pushes config []) (map Push config.pushes ++ []) config =
+    ++ (map (rank_of config.tables) config.ranks
+    ++ (map Push config.pushes ++ rows_declared config.rows))))) config
+behind_name config h pushed last bounds =
+    let pushes : Lead (with_pushes config []) (map Push config.pushes
+    ++ rows_declared config.rows) config =
     section (with_pushes config) Push (push_faults config.tables config.filters) (λ push. true)
-    (pushes_section config h) [] config.pushes [] config (all_fine config.pushes) pushed refl in
-    let last = subst (λ more. Lead (with_pushes config []) more config)
-    (append-nil (map Push config.pushes)) pushes in
+    (pushes_section config h) [] config.pushes (rows_declared config.rows) config
+    (all_fine config.pushes) pushed last in
     section (with_peers config.me) Peer peer_faults (λ name. true)
     (peers_section config.me h.me) [] config.peers _ config (all_fine config.peers) h.peers
     (section (with_tables config) Table table_faults (λ shape. true) (tables_section config h) []
@@ -287,19 +323,21 @@ behind_name config h pushed bounds =
     bounds h.filters
     (section (with_ranks config) (rank_of config.tables) (rank_faults config.tables)
     (λ rank. true) (ranks_section config h) [] config.ranks _ config (all_fine config.ranks)
-    h.ranks last)))
+    h.ranks pushes)))
 
 pub config_back : (config : Config) → all_faults config ≡ []
     → list_all (λ filter. have_bounds filter.conds) config.filters ≡ true
     → Write (lines_of (text_of config)) config
 config_back config none bounds =
-    let parts = both_none (config_faults config) _ none in
+    let whole = both_none _ _ none in
+    let parts = both_none (config_faults config) _ whole.0 in
     let h = faultless config parts.0 in
+    let last = rows_lead config config.rows refl none (not_not _ (no_fault _ _ whole.1)) in
     text_back (with_peers config.me []) opening (Me config.me) _ config (read_none opening refl)
-    refl h.me refl (none_pushed (with_peers config.me []) (record {
+    refl h.me refl refl (none_pushed (with_peers config.me []) (record {
       me = h.me;
       peers = refl;
       tables = refl;
       filters = refl;
       ranks = refl;
-    }) refl) (behind_name config h parts.1 bounds)
+    }) refl refl) (behind_name config h parts.1 last bounds)

@@ -12,8 +12,8 @@ use Rattle.std.proofs.lemmas.List.Folds.{list_any-append}
 use Rattle.agg_config.specs.declared.causes.LineCause.{LineCause}
 use Rattle.agg_config.specs.declared.causes.LineCause.TheVariants.{Syntax, Number, Check, NoMemory}
 use Rattle.agg_config.specs.Declarations.{declared}
-use Rattle.agg_config.specs.Reading.{AreSound, FailsFirst, FaultBehind, Meaning, behind, declaring}
-use Rattle.agg_config.specs.Reading.{faults_behind, is_me, is_named, line_fault, names, written}
+use Rattle.agg_config.specs.Reading.{AreSound, FailsFirst, FaultBehind, Meaning, behind}
+use Rattle.agg_config.specs.Reading.{bounds_again, declaring, faults_behind, is_me, is_named, line_fault, names, written}
 use Rattle.agg_config.specs.Reading.{takes_memory, wrong_check, wrong_word}
 use Rattle.agg_types.specs.Check.{all_faults, fault_if}
 use Rattle.agg_types.specs.declared.check.ConfigFault.{ConfigFault}
@@ -97,7 +97,8 @@ syntax_has_word config named (Err misread) e =
     absurd cc
 syntax_has_word config named (Ok None) e = absurd cc
 syntax_has_word config named (Ok (Some declaration)) e =
-    checks_first (all_faults (declaring config declaration)
+    checks_first (fault_if (bounds_again config declaration) Duplicate
+    ++ all_faults (declaring config declaration)
     ++ fault_if (named && is_me declaration) Duplicate) e
 
 -- a line's first fault is that of the lines

@@ -7,7 +7,8 @@ use Rattle.std.proofs.Common.{codes, refl, arith}
 use Rattle.std.proofs.lemmas.Bool.{leb-true, ltb-true, ne_eqb}
 use Rattle.std.specs.Fmt.{decimal}
 use Rattle.std.specs.List.{flat_map, join_with_byte, list_all}
-use Rattle.agg_types.specs.Check.{ascends, hold_fits, is_within, len_fits, period_fits}
+use Rattle.agg_types.specs.Check.{ascends, hold_fits, is_within, keep_fits, len_fits}
+use Rattle.agg_types.specs.Check.{period_fits}
 use Rattle.agg_types.specs.Col.{col_id, col_name}
 use Rattle.agg_types.specs.Name.{is_name}
 use Rattle.agg_types.specs.declared.column.Col.{Col}
@@ -17,21 +18,23 @@ use Rattle.agg_types.specs.declared.config.KeyKind.{KeyKind}
 use Rattle.agg_types.specs.declared.config.KeyKind.TheVariants.{Integer, Ip, Ipv6, Str, Binary}
 use Rattle.agg_types.specs.declared.config.Shape.{Shape}
 use Rattle.agg_types.specs.declared.limits.TheConstants.{HOLD_END, LARGEST_SIZE, LONGEST_KEY}
-use Rattle.agg_types.specs.declared.limits.TheConstants.{LONGEST_RANK, MOST_CONDS, SHORTEST_HOLD}
+use Rattle.agg_types.specs.declared.limits.TheConstants.{LONGEST_RANK, MOST_CONDS, MOST_ROWS, PERIOD_END}
+use Rattle.agg_types.specs.declared.limits.TheConstants.{SHORTEST_HOLD}
 use Rattle.line_words.specs.Operators.{operator_word}
 use Rattle.line_words.specs.Words.{are_comment}
 use Rattle.line_words.specs.declared.misread.Misread.{Misread}
-use Rattle.agg_config.specs.Declarations.{declared, filter_line, hold, key_kind, length_of}
-use Rattle.agg_config.specs.Declarations.{line_declaration, me_line, peer_line, push_line}
-use Rattle.agg_config.specs.Declarations.{rank_line, shape, table_line}
+use Rattle.agg_config.specs.Declarations.{declared, filter_line, hold, keep, key_kind}
+use Rattle.agg_config.specs.Declarations.{line_declaration, me_line, number_behind, peer_line}
+use Rattle.agg_config.specs.Declarations.{push_line, rank_line, rows_line, shape, table_line}
 use Rattle.agg_config.specs.Filters.{condition, conditions, known_bound}
 use Rattle.agg_config.specs.ReadResults.{read_each}
 use Rattle.line_words.specs.Conditions.{condition_words, have_bounds}
 use Rattle.agg_config.specs.Written.{declaration_line, is_valid}
-use Rattle.agg_config.specs.Written.{is_valid_table, words_of}
+use Rattle.agg_config.specs.Written.{is_valid_table, keep_words, kind_words, store_words}
+use Rattle.agg_config.specs.Written.{words_of}
 use Rattle.agg_config.specs.declared.declarations.Declaration.{Declaration}
 use Rattle.agg_config.specs.declared.declarations.Declaration.TheVariants.{Me, Peer, Table, Filter}
-use Rattle.agg_config.specs.declared.declarations.Declaration.TheVariants.{Rank, Push}
+use Rattle.agg_config.specs.declared.declarations.Declaration.TheVariants.{Rank, Push, Rows}
 use Rattle.agg_config.proofs.ColumnsBack.{in_order_same, periods_back, store_are_words}
 use Rattle.agg_config.proofs.ColumnsBack.{stored_back}
 use Rattle.line_words.proofs.ConditionsBack.{bound_fits, conditions_are_words}
@@ -97,7 +100,7 @@ push_read : (name : List ℕ) (ms : Option ℕ) → hold_fits ms ≡ true
       number = 1;
       words = words_of (Push (record { name = name; hold = ms }));
     }) ≡ Ok (Push (record { name = name; hold = ms }))
-unfolding line_declaration push_line hold
+unfolding line_declaration push_line hold number_behind
 push_read name None fits = refl
 push_read name (Some ms) fits = rw (number_back ms (hold_below ms fits)) refl
 
@@ -106,6 +109,16 @@ push_words : (name : List ℕ) (ms : Option ℕ) → is_name name ≡ true → h
 push_words name None is fits = rw (name_is_word name is) refl
 push_words name (Some ms) is fits =
     rw (name_is_word name is, number_is_word ms (hold_below ms fits)) refl
+
+-- ---- the bound on all rows
+
+rows_read : (n : ℕ) → n < 2 ^ 64
+    → line_declaration (record { number = 1; words = words_of (Rows n) }) ≡ Ok (Rows n)
+unfolding line_declaration rows_line
+rows_read n fits = rw (number_back n fits) refl
+
+rows_below : (n : ℕ) → is_within n MOST_ROWS ≡ true → n < 2 ^ 64
+rows_below n fits = omega (arith, within_most n MOST_ROWS fits)
 
 -- ---- filters
 
@@ -163,90 +176,68 @@ filter_words name table conds is_one is_its all =
 length_fits : (n : ℕ) → is_within n LONGEST_KEY ≡ true → n < 2 ^ 64
 length_fits n h = omega (arith, within_most n LONGEST_KEY h)
 
-table_read : (name : List ℕ) (kind : KeyKind) (size : ℕ) (cols : List (Col × ℕ))
-    → len_fits kind ≡ true → size < 2 ^ 64 → list_all period_fits cols ≡ true
-    → ascends (map (λ col. col_id col.0) cols) ≡ true
-    → line_declaration (record {
-      number = 1;
-      words = words_of
-          (Table (record { name = name; kind = kind; size = size; cols = cols }));
-    })
-    ≡ Ok (Table (record { name = name; kind = kind; size = size; cols = cols }))
-unfolding line_declaration table_line key_kind length_of shape
-table_read name Integer size cols len fits periods ascend =
-    rw (
-      number_back size fits,
-      stored_back 7 cols periods,
-      periods_back cols,
-      in_order_same cols ascend,
-    ) refl
-table_read name Ip size cols len fits periods ascend =
-    rw (
-      number_back size fits,
-      stored_back 7 cols periods,
-      periods_back cols,
-      in_order_same cols ascend,
-    ) refl
-table_read name Ipv6 size cols len fits periods ascend =
-    rw (
-      number_back size fits,
-      stored_back 7 cols periods,
-      periods_back cols,
-      in_order_same cols ascend,
-    ) refl
-table_read name (Str n) size cols len fits periods ascend =
-    rw (
-      number_back n (length_fits n len),
-      number_back size fits,
-      stored_back 9 cols periods,
-      periods_back cols,
-      in_order_same cols ascend,
-    ) refl
-table_read name (Binary n) size cols len fits periods ascend =
-    rw (
-      number_back n (length_fits n len),
-      number_back size fits,
-      stored_back 9 cols periods,
-      periods_back cols,
-      in_order_same cols ascend,
-    ) refl
+keep_below : (ms : ℕ) → keep_fits (Some ms) ≡ true → ms < 2 ^ 64
+keep_below ms fits =
+    let last = ltb-true ms PERIOD_END (both (leb 1 ms) _ fits).1 in
+    omega (arith, last)
 
-table_words : (name : List ℕ) (kind : KeyKind) (size : ℕ) (cols : List (Col × ℕ))
-    → is_name name ≡ true → len_fits kind ≡ true → size < 2 ^ 64
-    → list_all period_fits cols ≡ true → list_all is_word (words_of
-    (Table (record { name = name; kind = kind; size = size; cols = cols }))) ≡ true
-table_words name Integer size cols is len fits periods =
-    rw (name_is_word name is, number_is_word size fits, store_are_words cols periods) refl
-table_words name Ip size cols is len fits periods =
-    rw (name_is_word name is, number_is_word size fits, store_are_words cols periods) refl
-table_words name Ipv6 size cols is len fits periods =
-    rw (name_is_word name is, number_is_word size fits, store_are_words cols periods) refl
-table_words name (Str n) size cols is len fits periods =
-    rw (
-      name_is_word name is,
-      number_is_word n (length_fits n len),
-      number_is_word size fits,
-      store_are_words cols periods,
-    ) refl
-table_words name (Binary n) size cols is len fits periods =
-    rw (
-      name_is_word name is,
-      number_is_word n (length_fits n len),
-      number_is_word size fits,
-      store_are_words cols periods,
-    ) refl
+-- the number of the word behind a kind of keys that stands here
+abbrev behind_kind : ℕ → KeyKind → ℕ
+behind_kind number Integer = number + 1
+behind_kind number Ip = number + 1
+behind_kind number Ipv6 = number + 1
+behind_kind number (Str n) = number + 1 + 1 + 1
+behind_kind number (Binary n) = number + 1 + 1 + 1
+
+kind_back : (number : ℕ) (kind : KeyKind) (rest : List (List ℕ)) → len_fits kind ≡ true
+    → key_kind (record { number = number; words = kind_words kind ++ rest })
+    ≡ Ok (Ok kind, record { number = behind_kind number kind; words = rest })
+unfolding key_kind number_behind
+kind_back number Integer rest fits = refl
+kind_back number Ip rest fits = refl
+kind_back number Ipv6 rest fits = refl
+kind_back number (Str n) rest fits = rw (number_back n (length_fits n fits)) refl
+kind_back number (Binary n) rest fits = rw (number_back n (length_fits n fits)) refl
+
+kind_are_words : (kind : KeyKind) (rest : List (List ℕ)) → len_fits kind ≡ true
+    → list_all is_word rest ≡ true → list_all is_word (kind_words kind ++ rest) ≡ true
+kind_are_words Integer rest fits all = all
+kind_are_words Ip rest fits all = all
+kind_are_words Ipv6 rest fits all = all
+kind_are_words (Str n) rest fits all = rw (number_is_word n (length_fits n fits)) all
+kind_are_words (Binary n) rest fits all = rw (number_is_word n (length_fits n fits)) all
+
+-- the number of the word behind a longest life that stands here
+abbrev behind_keep : ℕ → Option ℕ → ℕ
+behind_keep number None = number
+behind_keep number (Some ms) = number + 1 + 1
+
+keep_back : (number : ℕ) (ms : Option ℕ) (cols : List (Col × ℕ)) → keep_fits ms ≡ true
+    → keep (record { number = number; words = keep_words ms ++ store_words cols })
+    ≡ Ok (Ok ms, record { number = behind_keep number ms; words = store_words cols })
+unfolding keep number_behind
+keep_back number None [] fits = refl
+keep_back number None (col ∷ cols) fits = refl
+keep_back number (Some ms) cols fits = rw (number_back ms (keep_below ms fits)) refl
+
+keep_are_words : (ms : Option ℕ) (rest : List (List ℕ)) → keep_fits ms ≡ true
+    → list_all is_word rest ≡ true → list_all is_word (keep_words ms ++ rest) ≡ true
+keep_are_words None rest fits all = all
+keep_are_words (Some ms) rest fits all = rw (number_is_word ms (keep_below ms fits)) all
 
 -- what a valid table has
 record ValidTable (table : Shape) : Type 0 where
   pub name : is_name table.name ≡ true
   pub length : len_fits table.kind ≡ true
   pub size : table.size < 2 ^ 64
+  pub keep : keep_fits table.keep ≡ true
   pub periods : list_all period_fits table.cols ≡ true
   pub ascend : ascends (map (λ col. col_id col.0) table.cols) ≡ true
 
 valid_table : (table : Shape) → is_valid_table table ≡ true → ValidTable table
 valid_table table valid =
-    let four = both _ _ valid in
+    let five = both _ _ valid in
+    let four = both _ _ five.0 in
     let three = both _ _ four.0 in
     let two = both _ _ three.0 in
     let one = both _ _ two.0 in
@@ -254,9 +245,34 @@ valid_table table valid =
       name = one.0;
       length = one.1;
       size = omega (arith, within_most table.size LARGEST_SIZE two.1);
-      periods = three.1;
-      ascend = four.1;
+      keep = three.1;
+      periods = four.1;
+      ascend = five.1;
     }
+
+table_read : (table : Shape) → ValidTable table
+    → line_declaration (record { number = 1; words = words_of (Table table) }) ≡ Ok (Table table)
+unfolding line_declaration table_line shape
+table_read table h =
+    let size = behind_kind 4 table.kind + 1 in
+    let rest = keep_words table.keep ++ store_words table.cols in
+    rw (
+      kind_back 4 table.kind (codes "size" ∷ decimal table.size ∷ rest) h.length,
+      number_back table.size h.size,
+      keep_back (size + 1) table.keep table.cols h.keep,
+      stored_back (behind_keep (size + 1) table.keep) table.cols h.periods,
+      periods_back table.cols,
+      in_order_same table.cols h.ascend,
+    ) refl
+
+table_words : (table : Shape) → ValidTable table
+    → list_all is_word (words_of (Table table)) ≡ true
+table_words table h =
+    let cols = store_are_words table.cols h.periods in
+    let keep = keep_are_words table.keep (store_words table.cols) h.keep cols in
+    let size : list_all is_word (codes "size" ∷ decimal table.size ∷ (keep_words table.keep
+    ++ store_words table.cols)) ≡ true = rw (number_is_word table.size h.size) keep in
+    rw (name_is_word table.name h.name) (kind_are_words table.kind _ h.length size)
 
 -- ---- each kind
 
@@ -266,7 +282,7 @@ line_words (Me name) valid = rw (name_is_word name valid) refl
 line_words (Peer name) valid = rw (name_is_word name valid) refl
 line_words (Table table) valid =
     let h = valid_table table valid in
-    table_words table.name table.kind table.size table.cols h.name h.length h.size h.periods
+    table_words table h
 line_words (Filter name table conds) valid =
     let three = both _ _ valid in
     let two = both _ _ three.0 in
@@ -279,6 +295,7 @@ line_words (Rank name table col n) valid =
 line_words (Push push) valid =
     let two = both (is_name push.name) (hold_fits push.hold) valid in
     push_words push.name push.hold two.0 two.1
+line_words (Rows n) valid = rw (number_is_word n (rows_below n valid)) refl
 
 line_read : (declaration : Declaration) → is_valid declaration ≡ true
     → line_declaration (record { number = 1; words = words_of declaration }) ≡ Ok declaration
@@ -286,7 +303,7 @@ line_read (Me name) valid = me_read name
 line_read (Peer name) valid = peer_read name
 line_read (Table table) valid =
     let h = valid_table table valid in
-    table_read table.name table.kind table.size table.cols h.length h.size h.periods h.ascend
+    table_read table h
 line_read (Filter name table conds) valid =
     let three = both _ _ valid in
     let two = both _ _ three.0 in
@@ -298,6 +315,7 @@ line_read (Rank name table col n) valid =
 line_read (Push push) valid =
     let two = both (is_name push.name) (hold_fits push.hold) valid in
     push_read push.name push.hold two.1
+line_read (Rows n) valid = rows_read n (rows_below n valid)
 
 says_something : (declaration : Declaration) → are_comment (words_of declaration) ≡ false
 says_something (Me name) = refl
@@ -306,6 +324,7 @@ says_something (Table table) = refl
 says_something (Filter name table conds) = refl
 says_something (Rank name table col n) = refl
 says_something (Push push) = refl
+says_something (Rows n) = refl
 
 pub line_back : (declaration : Declaration) → is_valid declaration ≡ true
     → declared (declaration_line declaration) ≡ Ok (Some declaration)

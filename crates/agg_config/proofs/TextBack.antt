@@ -9,7 +9,7 @@ use Rattle.line_words.proofs.Splitting.{lines_of_empty}
 use Rattle.line_words.proofs.TextLines.{first_line, line_bytes}
 use Rattle.line_words.proofs.WordsBack.{both}
 use Rattle.agg_config.specs.Lines.{AreWritten}
-use Rattle.agg_config.specs.Reading.{Passes, Write, declaring, is_me, meaning}
+use Rattle.agg_config.specs.Reading.{Passes, Write, bounds_again, declaring, is_me, meaning}
 use Rattle.agg_config.specs.Written.{declaration_line, is_valid, words_of}
 use Rattle.agg_config.specs.declared.declarations.Declaration.{Declaration}
 use Rattle.agg_config.proofs.Finished.{read_more}
@@ -34,10 +34,11 @@ lines_back (d ∷ declarations) all =
 
 -- a line of a declaration passes
 pub passes : (config : Config) (named : Bool) (d : Declaration) → is_valid d ≡ true
-    → all_faults (declaring config d) ≡ [] → (named && is_me d) ≡ false
+    → bounds_again config d ≡ false → all_faults (declaring config d) ≡ []
+    → (named && is_me d) ≡ false
     → Passes config named (meaning (declaration_line d)) (declaring config d) (named || is_me d)
-passes config named d valid faultless second = record {
-  faultless = rw (line_back d valid, faultless, second) refl;
+passes config named d valid again faultless second = record {
+  faultless = rw (line_back d valid, again, faultless, second) refl;
   whole = rw (line_back d valid) refl;
   told = rw (line_back d valid) refl;
 }
@@ -46,6 +47,7 @@ passes config named d valid faultless second = record {
 pub record Follows (config : Config) (d : Declaration) : Type 0 where
   pub valid : is_valid d ≡ true
   pub other : is_me d ≡ false
+  pub once : bounds_again config d ≡ false
   pub faultless : all_faults (declaring config d) ≡ []
 
 -- these declarations, one after the other, make this of a configuration that has its name
@@ -59,12 +61,12 @@ Named lines config = AreWritten lines config true (length lines)
 
 one_line : (lines : List (List ℕ)) (config : Config) (named : Bool) (d : Declaration)
     → AreWritten lines config named (length lines) → is_valid d ≡ true
-    → all_faults (declaring config d) ≡ [] → (named && is_me d) ≡ false
-    → (named || is_me d) ≡ true
+    → bounds_again config d ≡ false → all_faults (declaring config d) ≡ []
+    → (named && is_me d) ≡ false → (named || is_me d) ≡ true
     → Named (lines ++ declaration_line d ∷ []) (declaring config d)
-one_line lines config named d h valid faultless second has =
+one_line lines config named d h valid again faultless second has =
     let more = read_more lines (declaration_line d) config (declaring config d) named
-    (named || is_me d) (length lines) h (passes config named d valid faultless second) in
+    (named || is_me d) (length lines) h (passes config named d valid again faultless second) in
     record {
       sound = more.sound;
       whole = more.whole;
@@ -83,7 +85,7 @@ lead_on lines config (d ∷ more) after h p =
     subst (λ all. Named all after)
     (append_assoc lines (declaration_line d ∷ []) (map declaration_line more))
     (lead_on (lines ++ declaration_line d ∷ []) (declaring config d) more after
-    (one_line lines config true d h f.valid f.faultless f.other refl) p.1)
+    (one_line lines config true d h f.valid f.once f.faultless f.other refl) p.1)
 
 pub valid_lead : (config : Config) (declarations : List Declaration) (after : Config)
     → Lead config declarations after → list_all is_valid declarations ≡ true
@@ -95,11 +97,11 @@ valid_lead config (d ∷ more) after p =
 -- the first line gives the name, and the others lead to the configuration
 pub text_back : (first : Config) (before : Config) (me : Declaration) (more : List Declaration)
     (after : Config) → AreWritten [] before false 0 → is_me me ≡ true → is_valid me ≡ true
-    → declaring before me ≡ first → all_faults first ≡ [] → Lead first more after
-    → Write (lines_of (text_for (me ∷ more))) after
-text_back first before me more after none is valid makes faultless lead =
+    → bounds_again before me ≡ false → declaring before me ≡ first → all_faults first ≡ []
+    → Lead first more after → Write (lines_of (text_for (me ∷ more))) after
+text_back first before me more after none is valid once makes faultless lead =
     let start : Named (declaration_line me ∷ []) (declaring before me) =
-    one_line [] before false me none valid (ap all_faults makes ∙ faultless) refl is in
+    one_line [] before false me none valid once (ap all_faults makes ∙ faultless) refl is in
     let whole : Named (map declaration_line (me ∷ more)) after =
     lead_on (declaration_line me ∷ []) first more after (subst (λ c.
     Named (declaration_line me ∷ []) c) makes start) lead in

@@ -7,8 +7,8 @@ use Rattle.agg_types.specs.Kind.{kind_named, takes_length, with_length}
 use Rattle.agg_types.specs.declared.column.Col.{Col}
 use Rattle.agg_types.specs.declared.config.KeyKind.{KeyKind}
 use Rattle.agg_types.specs.declared.limits.TheConstants.{MOST_CONDS}
-use Rattle.line_words.specs.Reader.{◌>>=◌, Left, column, end, keyword, left_of, missing, number}
-use Rattle.line_words.specs.Reader.{said_by, word, wrong}
+use Rattle.line_words.specs.Reader.{◌>>=◌, Left, column, end, keyword, left_of, missing, next_is}
+use Rattle.line_words.specs.Reader.{number, said_by, word, wrong}
 use Rattle.line_words.specs.Words.{are_comment, words}
 use Rattle.line_words.specs.declared.misread.Expected.TheVariants.{Name, Keyword, Condition}
 use Rattle.line_words.specs.declared.misread.Misread.{Misread}
@@ -17,7 +17,7 @@ use Rattle.agg_config.specs.Filters.{conditions, known_bound}
 use Rattle.agg_config.specs.ReadResults.{read_each}
 use Rattle.agg_config.specs.declared.declarations.Declaration.{Declaration}
 use Rattle.agg_config.specs.declared.declarations.Declaration.TheVariants.{Me, Peer, Table, Filter}
-use Rattle.agg_config.specs.declared.declarations.Declaration.TheVariants.{Rank, Push}
+use Rattle.agg_config.specs.declared.declarations.Declaration.TheVariants.{Rank, Push, Rows}
 
 -- `name <name>`, behind its first word
 unfoldable pub me_line : Left → Result Declaration Misread
@@ -33,16 +33,22 @@ peer_line left = do
   none ← end name.1
   Ok (Peer name.0)
 
--- `len <n>`
-unfoldable pub length_of : Left → Result (Result ℕ Misread × Left) Misread
-length_of left = do
-  len ← keyword (codes "len") left
-  number len.1
+-- this word, and a number
+unfoldable pub number_behind : List ℕ → Left → Result (Result ℕ Misread × Left) Misread
+number_behind name left = do
+  name ← keyword name left
+  number name.1
+
+-- the same of a number that may be left out
+abbrev pub some_behind : List ℕ → Left → Result (Result (Option ℕ) Misread × Left) Misread
+some_behind name left = do
+  n ← number_behind name left
+  Ok (n.0 >>= λ n. Ok (Some n), n.1)
 
 -- a kind of keys with the length that stands behind it
 abbrev pub kind_of_length : KeyKind → Left → Result (Result KeyKind Misread × Left) Misread
 kind_of_length kind left = do
-  len ← length_of left
+  len ← number_behind (codes "len") left
   Ok (len.0 >>= λ bytes. Ok (with_length kind bytes), len.1)
 
 -- the same, where a declaration gives the kind a length
@@ -55,17 +61,31 @@ key_kind left = do
   kind ← said_by Keyword kind_named left
   kind_behind kind.0 kind.1
 
+-- `keep <ms>`, or nothing
+unfoldable pub keep : Left → Result (Result (Option ℕ) Misread × Left) Misread
+keep left =
+    if next_is (codes "keep") left.words
+    then some_behind (codes "keep") left else Ok (Ok None, left)
+
 -- a table of these words, where its numbers are known
 unfoldable pub shape :
-    List ℕ → Result KeyKind Misread → Result ℕ Misread → List (Col × Result ℕ Misread)
-    → Result Declaration Misread
-shape name kind size cols = do
+    List ℕ → Result KeyKind Misread → Result ℕ Misread → Result (Option ℕ) Misread
+    → List (Col × Result ℕ Misread) → Result Declaration Misread
+shape name kind size keep cols = do
   kind ← kind
   size ← size
+  keep ← keep
   cols ← read_each known_period cols
-  Ok (Table (record { name = name; kind = kind; size = size; cols = in_order cols }))
+  Ok (Table (record {
+    name = name;
+    kind = kind;
+    size = size;
+    keep = keep;
+    cols = in_order cols;
+  }))
 
--- `table <name> type <kind> size <n>`, and `store <col>,<col>..` where it stores any
+-- `table <name> type <kind> size <n>`, then `keep <ms>` where rows have a longest life, and
+-- `store <col>,<col>..` where it stores any
 unfoldable pub table_line : Left → Result Declaration Misread
 table_line left = do
   name ← word Name left
@@ -73,8 +93,9 @@ table_line left = do
   kind ← key_kind type.1
   size ← keyword (codes "size") kind.1
   size ← number size.1
-  cols ← stored size.1
-  shape name.0 kind.0 size.0 cols
+  keep ← keep size.1
+  cols ← stored keep.1
+  shape name.0 kind.0 size.0 keep.0 cols
 
 -- `filter <name> <table> data.<col> <op> <value>`, with one to four conditions
 unfoldable pub filter_line : Left → Result Declaration Misread
@@ -99,10 +120,8 @@ rank_line left = do
 
 -- `hold <ms>`, or nothing
 unfoldable pub hold : Left → Result (Result (Option ℕ) Misread × Left) Misread
-hold left = if nat_eq (length left.words) 0 then Ok (Ok None, left) else do
-  hold ← keyword (codes "hold") left
-  ms ← number hold.1
-  Ok (ms.0 >>= λ ms. Ok (Some ms), ms.1)
+hold left =
+    if nat_eq (length left.words) 0 then Ok (Ok None, left) else some_behind (codes "hold") left
 
 -- `push <filter>`, and `hold <ms>` where there is one
 unfoldable pub push_line : Left → Result Declaration Misread
@@ -113,6 +132,14 @@ push_line left = do
   hold ← hold.0
   Ok (Push (record { name = name.0; hold = hold }))
 
+-- `rows <n>`
+unfoldable pub rows_line : Left → Result Declaration Misread
+rows_line left = do
+  n ← number left
+  none ← end n.1
+  n ← n.0
+  Ok (Rows n)
+
 -- what the words of a line declare, by the first of them, which stands at this place
 abbrev pub line_named : ℕ → List ℕ → Left → Result Declaration Misread
 line_named place kind left =
@@ -122,6 +149,7 @@ line_named place kind left =
     else if bytes_eq kind (codes "filter") then filter_line left
     else if bytes_eq kind (codes "rank") then rank_line left
     else if bytes_eq kind (codes "push") then push_line left
+    else if bytes_eq kind (codes "rows") then rows_line left
     else Err (wrong place Keyword)
 
 unfoldable pub line_declaration : Left → Result Declaration Misread

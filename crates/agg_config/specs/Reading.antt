@@ -2,7 +2,8 @@
 use Rattle.std.specs.Prelude.{◌≡◌, ◌≢◌, ◌⊎◌, ℕ, ◌+◌, ◌<◌, ◌≤◌, Bool, true, false, ◌&&◌, ◌||◌}
 use Rattle.std.specs.Prelude.{not, if◌then◌else◌, List, [], ◌∷◌}
 use Rattle.std.specs.Prelude.{◌++◌, length, take, map, fold, position, unwrap_or, slice_get}
-use Rattle.std.specs.Prelude.{slice_index_or, codes, Option, None, Some, Result, Ok, Err}
+use Rattle.std.specs.Prelude.{slice_index_or, codes, is_some, Option, None, Some}
+use Rattle.std.specs.Prelude.{Result, Ok, Err}
 use Rattle.std.specs.Fmt.{decimal}
 use Rattle.std.specs.List.{list_any}
 use Rattle.std.specs.Str.{bytes_eq}
@@ -27,7 +28,7 @@ use Rattle.agg_config.specs.declared.causes.Unread.TheVariants as unread
 use Rattle.agg_config.specs.declared.causes.Wrong.{Wrong}
 use Rattle.agg_config.specs.declared.declarations.Declaration.{Declaration}
 use Rattle.agg_config.specs.declared.declarations.Declaration.TheVariants.{Me, Peer, Table, Filter}
-use Rattle.agg_config.specs.declared.declarations.Declaration.TheVariants.{Rank, Push}
+use Rattle.agg_config.specs.declared.declarations.Declaration.TheVariants.{Rank, Push, Rows}
 
 -- the position of the table of this name; past the last where there is none
 abbrev pub table_at : List Shape → List ℕ → ℕ
@@ -48,6 +49,7 @@ declaring config (Rank name table col n) =
     let rank : Ranks.Rank = record { name = name; table = at; col = col; n = n } in
     record config { ranks = config.ranks ++ rank ∷ [] }
 declaring config (Push push) = record config { pushes = config.pushes ++ push ∷ [] }
+declaring config (Rows n) = record config { rows = Some n }
 
 -- whether it is the collector's name
 abbrev pub is_me : Declaration → Bool
@@ -57,6 +59,17 @@ is_me (Table shape) = false
 is_me (Filter name table conds) = false
 is_me (Rank name table col n) = false
 is_me (Push push) = false
+is_me (Rows n) = false
+
+-- whether it bounds all rows where a line before it did
+abbrev pub bounds_again : Config → Declaration → Bool
+bounds_again config (Me name) = false
+bounds_again config (Peer name) = false
+bounds_again config (Table shape) = false
+bounds_again config (Filter name table conds) = false
+bounds_again config (Rank name table col n) = false
+bounds_again config (Push push) = false
+bounds_again config (Rows n) = is_some config.rows
 
 -- a cause's name
 abbrev pub cause_name : LineCause → List ℕ
@@ -121,8 +134,15 @@ names (Ok (Some declaration)) = is_me declaration
 
 -- before the first line: nothing, under the name `-` until it has one
 abbrev pub opening : Config
-opening =
-    record { me = 45 ∷ []; peers = []; tables = []; filters = []; ranks = []; pushes = [] }
+opening = record {
+  me = 45 ∷ [];
+  peers = [];
+  tables = [];
+  filters = [];
+  ranks = [];
+  pushes = [];
+  rows = None;
+}
 
 -- what lines write
 unfoldable pub written : List (List ℕ) → Config
@@ -137,8 +157,9 @@ abbrev pub faults_behind : Config → Bool → Meaning → List Wrong
 faults_behind config named (Err misread) = wrong_word misread ∷ []
 faults_behind config named (Ok None) = []
 faults_behind config named (Ok (Some declaration)) =
+    let again = fault_if (bounds_again config declaration) Duplicate in
     let second = fault_if (named && is_me declaration) Duplicate in
-    map wrong_check (all_faults (declaring config declaration) ++ second)
+    map wrong_check (again ++ all_faults (declaring config declaration) ++ second)
 
 -- a line is read without a fault: what it leaves
 pub record Passes (config : Config) (named : Bool) (line : Meaning) (after : Config)

@@ -4,7 +4,8 @@ use Rattle.std.specs.Prelude.{length, map, slice_get, codes, Option, None, Some}
 use Rattle.std.specs.Fmt.{decimal}
 use Rattle.std.specs.List.{flat_map, join_with_byte, list_all}
 use Rattle.std.specs.Option.{option_map_or}
-use Rattle.agg_types.specs.Check.{ascends, hold_fits, is_within, len_fits, period_fits}
+use Rattle.agg_types.specs.Check.{ascends, hold_fits, is_within, keep_fits, len_fits}
+use Rattle.agg_types.specs.Check.{period_fits}
 use Rattle.agg_types.specs.Col.{col_id, col_name, is_rate}
 use Rattle.agg_types.specs.Kind.{given_length, kind_name}
 use Rattle.agg_types.specs.Name.{is_name}
@@ -15,10 +16,11 @@ use Rattle.agg_types.specs.declared.config.Rank as Ranks
 use Rattle.agg_types.specs.declared.config.KeyKind.{KeyKind}
 use Rattle.agg_types.specs.declared.config.Shape.{Shape}
 use Rattle.agg_types.specs.declared.limits.TheConstants.{LARGEST_SIZE, LONGEST_RANK, MOST_CONDS}
+use Rattle.agg_types.specs.declared.limits.TheConstants.{MOST_ROWS}
 use Rattle.line_words.specs.Conditions.{condition_words, have_bounds}
 use Rattle.agg_config.specs.declared.declarations.Declaration.{Declaration}
 use Rattle.agg_config.specs.declared.declarations.Declaration.TheVariants.{Me, Peer, Table, Filter}
-use Rattle.agg_config.specs.declared.declarations.Declaration.TheVariants.{Rank, Push}
+use Rattle.agg_config.specs.declared.declarations.Declaration.TheVariants.{Rank, Push, Rows}
 
 -- `len` and a length, where there is one
 abbrev pub length_words : Option ℕ → List (List ℕ)
@@ -40,6 +42,11 @@ store_words [] = []
 store_words (first ∷ rest) =
     codes "store" ∷ join_with_byte 44 (map column_text (first ∷ rest)) ∷ []
 
+-- `keep` and its ms, where rows have a longest life
+abbrev pub keep_words : Option ℕ → List (List ℕ)
+keep_words None = []
+keep_words (Some keep) = codes "keep" ∷ decimal keep ∷ []
+
 -- `hold` and its ms, where there is a hold
 abbrev pub hold_words : Option ℕ → List (List ℕ)
 hold_words None = []
@@ -50,10 +57,11 @@ abbrev pub words_of : Declaration → List (List ℕ)
 words_of (Me name) = codes "name" ∷ name ∷ []
 words_of (Peer name) = codes "peer" ∷ name ∷ []
 words_of (Table shape) = codes "table" ∷ shape.name ∷ codes "type" ∷ (kind_words shape.kind
-    ++ codes "size" ∷ decimal shape.size ∷ store_words shape.cols)
+    ++ codes "size" ∷ decimal shape.size ∷ (keep_words shape.keep ++ store_words shape.cols))
 words_of (Filter name table conds) = codes "filter" ∷ name ∷ table ∷ flat_map condition_words conds
 words_of (Rank name table col n) = codes "rank" ∷ name ∷ table ∷ col_name col ∷ decimal n ∷ []
 words_of (Push push) = codes "push" ∷ push.name ∷ hold_words push.hold
+words_of (Rows n) = codes "rows" ∷ decimal n ∷ []
 
 -- the line: its words, with one space between them
 abbrev pub declaration_line : Declaration → List ℕ
@@ -62,7 +70,8 @@ declaration_line declaration = join_with_byte 32 (words_of declaration)
 -- the table that a line declares has a name, columns and numbers that it may have
 abbrev pub is_valid_table : Shape → Bool
 is_valid_table shape = is_name shape.name && len_fits shape.kind
-    && is_within shape.size LARGEST_SIZE && list_all period_fits shape.cols
+    && is_within shape.size LARGEST_SIZE && keep_fits shape.keep
+    && list_all period_fits shape.cols
     && ascends (map (λ col. col_id col.0) shape.cols)
 
 -- whether a declaration's names and numbers are such as they may be
@@ -74,6 +83,7 @@ is_valid (Filter name table conds) = is_name name && is_name table
     && is_within (length conds) MOST_CONDS && have_bounds conds
 is_valid (Rank name table col n) = is_name name && is_name table && is_within n LONGEST_RANK
 is_valid (Push push) = is_name push.name && hold_fits push.hold
+is_valid (Rows n) = is_within n MOST_ROWS
 
 -- the name of the table at a position
 abbrev pub table_name : List Shape → ℕ → List ℕ
@@ -87,12 +97,18 @@ filter_of tables filter = Filter filter.name (table_name tables filter.table) fi
 abbrev pub rank_of : List Shape → Ranks.Rank → Declaration
 rank_of tables rank = Rank rank.name (table_name tables rank.table) rank.col rank.n
 
--- what a configuration declares: its name, then peers, tables, filters, ranked lists and what it
--- pushes
+-- a bound on all rows, where there is one
+abbrev pub rows_declared : Option ℕ → List Declaration
+rows_declared None = []
+rows_declared (Some n) = Rows n ∷ []
+
+-- what a configuration declares: its name, then peers, tables, filters, ranked lists, what it
+-- pushes, and its bound on all rows
 abbrev pub declarations_of : Config → List Declaration
 declarations_of config = Me config.me ∷ (map Peer config.peers ++ (map Table config.tables
     ++ (map (filter_of config.tables) config.filters
-    ++ (map (rank_of config.tables) config.ranks ++ map Push config.pushes))))
+    ++ (map (rank_of config.tables) config.ranks
+    ++ (map Push config.pushes ++ rows_declared config.rows)))))
 
 -- the text of a configuration: a line for each, ended by LF
 abbrev pub text_of : Config → List ℕ

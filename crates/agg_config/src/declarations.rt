@@ -2,9 +2,10 @@
 
 ghost use Rattle.std.specs.Prelude.{◌≡◌, ◌||◌, true, Err, is_ok};
 ghost use Rattle.line_words.specs.Reader.{Reads};
-ghost use Rattle.agg_config.specs.Declarations.{declared, filter_line, hold, key_kind, length_of};
-ghost use Rattle.agg_config.specs.Declarations.{line_declaration, me_line, peer_line, push_line};
-ghost use Rattle.agg_config.specs.Declarations.{rank_line, shape, table_line};
+ghost use Rattle.agg_config.specs.Declarations.{declared, filter_line, hold, keep, key_kind};
+ghost use Rattle.agg_config.specs.Declarations.{line_declaration, me_line, number_behind};
+ghost use Rattle.agg_config.specs.Declarations.{peer_line, push_line, rank_line, rows_line, shape};
+ghost use Rattle.agg_config.specs.Declarations.{some_behind, table_line};
 ghost use Rattle.agg_config.specs.ReadResults.{Gives, GivesWhole};
 ghost use Rattle.agg_config.specs.Reading.{has_list, takes_memory};
 ghost use Rattle.agg_config.specs.declared.causes.Unread.TheVariants.{NoMemory as Refused};
@@ -34,6 +35,7 @@ pub(crate) enum Declaration {
         n: u64,
     },
     Push(Push),
+    Rows(u64),
 }
 
 /// What a line declares, or nothing where it is blank or a comment.
@@ -69,6 +71,8 @@ fn line_declaration(alloc: Global, words: &mut Words<'_>) -> Result<Declaration,
         rank_line(alloc, words)
     } else if kind == b"push".as_slice() {
         push_line(alloc, words)
+    } else if kind == b"rows".as_slice() {
+        Ok(rows_line(words)?)
     } else {
         Err(Unread::Misread(Misread::wrong(place, Expected::Keyword)))
     }
@@ -101,8 +105,9 @@ fn table_line(alloc: Global, words: &mut Words<'_>) -> Result<Declaration, Unrea
     let kind = key_kind(words)?;
     words.keyword(b"size")?;
     let size = words.number()?;
+    let keep = keep(words)?;
     let cols = stored(alloc, words)?;
-    shape(alloc, name, kind, size, cols.as_slice())
+    shape(alloc, name, kind, size, keep, cols.as_slice())
 }
 
 // The kind of keys, or why its length is no number.
@@ -117,16 +122,35 @@ fn key_kind(words: &mut Words<'_>) -> Result<Result<KeyKind, Misread>, Misread>
     if !kind.takes_length() {
         return Ok(Ok(kind));
     }
-    Ok(length(words)?.map(|len| kind.with_length(len)))
+    Ok(number_behind(words, b"len")?.map(|len| kind.with_length(len)))
 }
 
-// The length of keys, or why it is no number.
-#[tactic(auto, unfolding(crate::specs::Declarations::length_of))]
-fn length(words: &mut Words<'_>) -> Result<Result<u64, Misread>, Misread>
-    ensures { Reads (λ x. x) (length_of words.old) result words.new }
+// A word and the number behind it, or why that is none.
+#[tactic(auto, unfolding(crate::specs::Declarations::number_behind))]
+fn number_behind(words: &mut Words<'_>, name: &[u8]) -> Result<Result<u64, Misread>, Misread>
+    ensures { Reads (λ x. x) (number_behind name.now words.old) result words.new }
 {
-    words.keyword(b"len")?;
+    words.keyword(name)?;
     words.number()
+}
+
+// The same of a number that may be left out.
+fn some_behind(words: &mut Words<'_>, name: &[u8]) -> Result<Result<Option<u64>, Misread>, Misread>
+    ensures { Reads (λ x. x) (some_behind name.now words.old) result words.new }
+{
+    Ok(number_behind(words, name)?.map(Some))
+}
+
+// The longest life of a table's rows, if there is one, or why it is no number.
+#[tactic(auto, unfolding(crate::specs::Declarations::keep))]
+fn keep(words: &mut Words<'_>) -> Result<Result<Option<u64>, Misread>, Misread>
+    ensures { Reads (λ x. x) (keep words.old) result words.new }
+{
+    if words.next_is(b"keep") {
+        some_behind(words, b"keep")
+    } else {
+        Ok(Ok(None))
+    }
 }
 
 // The table, where its numbers are known.
@@ -136,17 +160,20 @@ fn shape(
     name: &[u8],
     kind: Result<KeyKind, Misread>,
     size: Result<u64, Misread>,
+    keep: Result<Option<u64>, Misread>,
     cols: &[Stored],
 ) -> Result<Declaration, Unread>
-    ensures { Gives (λ x. x) result (shape name.now kind size cols.now) }
+    ensures { Gives (λ x. x) result (shape name.now kind size keep cols.now) }
 {
     let kind = kind?;
     let size = size?;
+    let keep = keep?;
     let cols = known_periods(alloc, cols)?;
     Ok(Declaration::Table(Shape {
         name: Name::copy(alloc, name)?,
         kind,
         size,
+        keep,
         cols: in_order(alloc, cols.as_slice())?,
     }))
 }
@@ -208,6 +235,14 @@ fn hold(words: &mut Words<'_>) -> Result<Result<Option<u64>, Misread>, Misread>
     if words.is_empty() {
         return Ok(Ok(None));
     }
-    words.keyword(b"hold")?;
-    Ok(words.number()?.map(Some))
+    some_behind(words, b"hold")
+}
+
+#[tactic(auto, unfolding(crate::specs::Declarations::rows_line))]
+fn rows_line(words: &mut Words<'_>) -> Result<Declaration, Misread>
+    ensures { result ≡ rows_line words.old }
+{
+    let rows = words.number()?;
+    words.end()?;
+    Ok(Declaration::Rows(rows?))
 }

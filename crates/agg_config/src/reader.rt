@@ -4,9 +4,9 @@ ghost use Rattle.std.specs.Prelude.{◌≡◌, ◌≤◌, ◌<◌, ◌+◌, ◌^
 ghost use Rattle.std.specs.Prelude.{OnOk, IfOk, IfErr};
 ghost use Rattle.agg_types.specs.Check.{all_faults, config_faults};
 ghost use Rattle.line_words.specs.Words.{lines_of};
-ghost use Rattle.agg_config.specs.Reading.{FailsFirst, IsFirstFault, Passes, Write, declaring};
-ghost use Rattle.agg_config.specs.Reading.{faults_behind, is_me, meaning, opening, table_at};
-ghost use Rattle.agg_config.specs.Reading.{takes_memory, wrong_check};
+ghost use Rattle.agg_config.specs.Reading.{FailsFirst, IsFirstFault, Passes, Write, bounds_again};
+ghost use Rattle.agg_config.specs.Reading.{declaring, faults_behind, is_me, meaning, opening};
+ghost use Rattle.agg_config.specs.Reading.{table_at, takes_memory, wrong_check};
 ghost use Rattle.agg_config.specs.declared.causes.LineCause.TheVariants.{NoMemory as RefusedLine};
 
 use crate::causes::Wrong;
@@ -31,6 +31,16 @@ fn is_me(declaration: &Declaration) -> bool
 {
     match declaration {
         Declaration::Me(_) => true,
+        _ => false,
+    }
+}
+
+// Whether it bounds all rows where a line before it did.
+fn bounds_again(config: &Config, declaration: &Declaration) -> bool
+    ensures { result ≡ bounds_again config.now declaration.now }
+{
+    match declaration {
+        Declaration::Rows(_) => config.rows.is_some(),
         _ => false,
     }
 }
@@ -62,6 +72,7 @@ fn declare(config: &mut Config, declaration: Declaration) -> Result<(), NoMemory
             })?
         }
         Declaration::Push(push) => config.pushes.push(push)?,
+        Declaration::Rows(rows) => config.rows = Some(rows),
     }
     Ok(())
 }
@@ -79,6 +90,9 @@ fn read_line(alloc: Global, config: &mut Config, named: &mut bool, line: &[u8]) 
     let Some(declaration) = declared(alloc, line)? else {
         return Ok(());
     };
+    if bounds_again(config, &declaration) {
+        return Err(wrong_check(ConfigFault::Duplicate));
+    }
     let me = is_me(&declaration);
     declare(config, declaration)?;
     match config.check() {
@@ -101,7 +115,7 @@ fn wrong_check(fault: ConfigFault) -> Wrong
     }
 }
 
-// No peer, table, filter, ranked list or push, under a name that isn't the collector's yet.
+// No peer, table, filter, ranked list, push or bound, under a name that isn't the collector's yet.
 fn opening(alloc: Global) -> Result<Config, NoMemory>
     ensures { IfOk result (λ config. config ≡ opening) }
 {
@@ -112,6 +126,7 @@ fn opening(alloc: Global) -> Result<Config, NoMemory>
         filters: Declared::new(alloc),
         ranks: Declared::new(alloc),
         pushes: Declared::new(alloc),
+        rows: None,
     })
 }
 

@@ -10,7 +10,8 @@ use Rattle.agg_types.specs.declared.column.Col.{Col}
 use Rattle.agg_types.specs.declared.limits.TheConstants.{HOLD_END, LARGEST_SIZE, LONGEST_KEY}
 use Rattle.agg_types.specs.declared.limits.TheConstants.{LONGEST_RANK, SHORTEST_HOLD}
 use Rattle.agg_types.specs.declared.limits.TheConstants.{MOST_CONDS, MOST_FILTERS, MOST_PEERS}
-use Rattle.agg_types.specs.declared.limits.TheConstants.{MOST_PUSHES, MOST_RANKS, MOST_TABLES}
+use Rattle.agg_types.specs.declared.limits.TheConstants.{MOST_PUSHES, MOST_RANKS, MOST_ROWS}
+use Rattle.agg_types.specs.declared.limits.TheConstants.{MOST_TABLES}
 use Rattle.agg_types.specs.declared.limits.TheConstants.{PERIOD_END}
 use Rattle.agg_types.specs.declared.config.Config.{Config}
 use Rattle.agg_types.specs.declared.config.Filter.{Filter}
@@ -68,6 +69,11 @@ len_fits Integer = true
 len_fits Ip = true
 len_fits Ipv6 = true
 
+-- a longest life of rows is 1 to 2^31 - 1 ms, where there is one
+abbrev pub keep_fits : Option ℕ → Bool
+keep_fits None = true
+keep_fits (Some keep) = nat_le 1 keep && nat_lt keep PERIOD_END
+
 -- the faults of a table, which follow from those before it
 unfoldable pub table_faults : List Shape → Shape → List ConfigFault
 table_faults before shape =
@@ -75,7 +81,7 @@ table_faults before shape =
     ++ fault_if (not (is_name shape.name)) BadName
     ++ fault_if (list_any (λ other. bytes_eq other.name shape.name) before
     || not (ascends (map (λ col. col_id col.0) shape.cols))) Duplicate
-    ++ fault_if (not (list_all period_fits shape.cols)) BadPeriod
+    ++ fault_if (not (list_all period_fits shape.cols && keep_fits shape.keep)) BadPeriod
     ++ fault_if (not (is_within shape.size LARGEST_SIZE && len_fits shape.kind)) BadSize
 
 -- the faults of a filter, which follow from those before it
@@ -116,6 +122,11 @@ push_faults tables filters before push =
     ++ fault_if (not (list_any (λ filter. bytes_eq filter.name push.name) filters)) UnknownFilter
     ++ fault_if (not (hold_fits push.hold)) BadPeriod
 
+-- all peers together may hold 1 to 2^40 rows, where there is a bound
+abbrev pub rows_fit : Option ℕ → Bool
+rows_fit None = true
+rows_fit (Some rows) = is_within rows MOST_ROWS
+
 -- the faults of what a fleet is followed by, in the order in which they count
 abbrev pub config_faults : Config → List ConfigFault
 config_faults config =
@@ -125,11 +136,13 @@ config_faults config =
     ++ each (filter_faults config.tables) [] config.filters
     ++ each (rank_faults config.tables) [] config.ranks
 
--- the faults of a configuration, in the order in which they count: those of what it follows, and
--- those of what it pushes
+-- the faults of a configuration, in the order in which they count: those of what it follows, of
+-- what it pushes, and of its bound on all rows
 abbrev pub all_faults : Config → List ConfigFault
 all_faults config =
-    config_faults config ++ each (push_faults config.tables config.filters) [] config.pushes
+    config_faults config
+    ++ each (push_faults config.tables config.filters) [] config.pushes
+    ++ fault_if (not (rows_fit config.rows)) BadSize
 
 -- Ok where there are no faults, else the first of them
 abbrev pub FindsFirst : Result (Unit {0}) ConfigFault → List ConfigFault → Type 0

@@ -4,13 +4,13 @@ ghost use Rattle.std.specs.Str.{bytes_eq};
 ghost use Rattle.agg_types.specs.Col.{col_id};
 ghost use Rattle.agg_types.specs.FaultName.{config_fault_name};
 ghost use Rattle.agg_types.specs.Check.{FindsFirst, all_faults, ascends, each, filter_faults};
-ghost use Rattle.agg_types.specs.Check.{hold_fits, is_within, peer_faults, period_fits};
-ghost use Rattle.agg_types.specs.Check.{push_faults, rank_faults, table_faults};
+ghost use Rattle.agg_types.specs.Check.{hold_fits, is_within, keep_fits, peer_faults, period_fits};
+ghost use Rattle.agg_types.specs.Check.{push_faults, rank_faults, rows_fit, table_faults};
 
 use crate::fits::all_stored;
 use crate::limits::{
     HOLD_END, LARGEST_SIZE, LONGEST_RANK, MOST_CONDS, MOST_FILTERS, MOST_PEERS, MOST_PUSHES,
-    MOST_RANKS, MOST_TABLES, PERIOD_END, SHORTEST_HOLD,
+    MOST_RANKS, MOST_ROWS, MOST_TABLES, PERIOD_END, SHORTEST_HOLD,
 };
 use crate::{Col, Config, Declared, Filter, Name, Named, Push, Rank, Shape};
 use std::error::Error;
@@ -28,10 +28,11 @@ pub enum ConfigFault {
     UnknownTable,
     /// A condition or a ranked list on a column that its table doesn't store.
     UnknownColumn,
-    /// A rate without a period of 1 to 2^31 - 1 ms, or a count with one; a hold outside 1,000 to
-    /// 2^31 - 1 ms.
+    /// A rate without a period of 1 to 2^31 - 1 ms, or a count with one; a longest life of rows
+    /// outside 1 to 2^31 - 1 ms; a hold outside 1,000 to 2^31 - 1 ms.
     BadPeriod,
-    /// A table's size or key length, a list's length or a filter's conditions out of range.
+    /// A table's size or key length, a list's length, a filter's conditions or the bound on all
+    /// rows out of range.
     BadSize,
     /// A name that is empty, has more than 128 bytes, or a byte outside 33 to 126.
     BadName,
@@ -68,9 +69,9 @@ impl Error for ConfigFault {}
 
 impl Config {
     /// Whether the configuration is sound. The fault is the first, in the order of the collector's
-    /// name, peers, tables, filters, ranked lists and pushed filters; in an entry TooMany comes
-    /// first, then BadName, Duplicate, UnknownTable, UnknownColumn, UnknownFilter, BadPeriod,
-    /// BadSize.
+    /// name, peers, tables, filters, ranked lists, pushed filters and the bound on all rows; in an
+    /// entry TooMany comes first, then BadName, Duplicate, UnknownTable, UnknownColumn,
+    /// UnknownFilter, BadPeriod, BadSize.
     pub fn check(&self) -> Result<(), ConfigFault>
         ensures { FindsFirst result (all_faults self.now) }
     {
@@ -82,6 +83,9 @@ impl Config {
         check_each(self, &self.filters)?;
         check_each(self, &self.ranks)?;
         check_each(self, &self.pushes)?;
+        if !rows_fit(self.rows) {
+            return Err(ConfigFault::BadSize);
+        }
         Ok(())
     }
 }
@@ -155,7 +159,7 @@ impl Checked for Shape {
         if named || !ascends(self.cols.as_slice()) {
             return Err(ConfigFault::Duplicate);
         }
-        if !all_periods_fit(self.cols.as_slice()) {
+        if !all_periods_fit(self.cols.as_slice()) || !keep_fits(self.keep) {
             return Err(ConfigFault::BadPeriod);
         }
         if !is_within(self.size, LARGEST_SIZE) || !self.kind.length_fits() {
@@ -262,6 +266,24 @@ fn hold_fits(hold: Option<u64>) -> bool
     match hold {
         None => true,
         Some(hold) => SHORTEST_HOLD <= hold && hold < HOLD_END,
+    }
+}
+
+fn keep_fits(keep: Option<u64>) -> bool
+    ensures { result ≡ keep_fits keep }
+{
+    match keep {
+        None => true,
+        Some(keep) => 1 <= keep && keep < u64::from(PERIOD_END),
+    }
+}
+
+fn rows_fit(rows: Option<u64>) -> bool
+    ensures { result ≡ rows_fit rows }
+{
+    match rows {
+        None => true,
+        Some(rows) => is_within(rows, MOST_ROWS),
     }
 }
 

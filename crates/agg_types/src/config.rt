@@ -16,15 +16,17 @@ pub enum KeyKind {
     Binary(u64),
 }
 
-/// A table: its name, the kind of its keys, how many rows each peer may hold, and the columns
-/// stored.
+/// A table: its name, the kind of its keys, how many rows each peer may hold, how long a row may
+/// live, and the columns stored.
 ///
-/// A column stands with its period in ms, which is 0 for a count. Columns ascend.
+/// With `keep`, in ms, a row lives at most so long, whatever life its proxy gives it. A column
+/// stands with its period in ms, which is 0 for a count. Columns ascend.
 #[derive(Debug)]
 pub struct Shape {
     pub name: Name,
     pub kind: KeyKind,
     pub size: u64,
+    pub keep: Option<u64>,
     pub cols: Items<(Col, u32)>,
 }
 
@@ -35,6 +37,7 @@ impl Drop for Shape {
             name: _,
             kind: _,
             size: _,
+            keep: _,
             cols: _,
         } = self;
     }
@@ -134,7 +137,8 @@ impl Drop for Push {
 }
 
 /// A collector's configuration: its own name, and its peers, tables, filters and ranked lists,
-/// which events name by position, and the filters that it pushes.
+/// which events name by position, the filters that it pushes, and how many rows all peers may hold
+/// together, where that has a bound.
 #[derive(Debug)]
 pub struct Config {
     pub me: Name,
@@ -143,6 +147,7 @@ pub struct Config {
     pub filters: Declared<Filter>,
     pub ranks: Declared<Rank>,
     pub pushes: Declared<Push>,
+    pub rows: Option<u64>,
 }
 
 // By hand, so that what drops it elsewhere proves nothing of its parts.
@@ -155,6 +160,7 @@ impl Drop for Config {
             filters: _,
             ranks: _,
             pushes: _,
+            rows: _,
         } = self;
     }
 }
@@ -180,6 +186,7 @@ impl Shape {
             name: self.name.duplicate(alloc)?,
             kind: self.kind,
             size: self.size,
+            keep: self.keep,
             cols: self.cols.duplicate(alloc)?,
         })
     }
@@ -272,6 +279,7 @@ impl Config {
             filters: self.filters.duplicate(alloc)?,
             ranks: self.ranks.duplicate(alloc)?,
             pushes: self.pushes.duplicate(alloc)?,
+            rows: self.rows,
         })
     }
 }

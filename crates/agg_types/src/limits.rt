@@ -36,10 +36,13 @@ pub const LONGEST_KEY: u64 = 256;
 /// The most rows of one peer in one table.
 pub const LARGEST_SIZE: u64 = 1_000_000;
 
+/// The highest bound on the rows of all peers and tables together.
+pub const MOST_ROWS: u64 = 1 << 40;
+
 /// The longest ranked list.
 pub const LONGEST_RANK: u64 = 1000;
 
-/// The first period, in ms, that is too long.
+/// The first period or life, in ms, that is too long.
 pub const PERIOD_END: u32 = 1 << 31;
 
 /// The longest payload of a message of the peers protocol, in bytes.

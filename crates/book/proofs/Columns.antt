@@ -104,7 +104,7 @@ nothing_stored c since (s ∷ cols) (cell ∷ cells) none =
     let parts = or_parts (same_col s.0 c) (list_any (λ s. same_col s.0 c) cols) none in
     rw parts.0 (nothing_stored c since cols cells parts.1)
 
-nothing_of_row : (cols : List (Col × ℕ)) (c : Col) (t : ℕ) (row : Arrival)
+pub nothing_of_row : (cols : List (Col × ℕ)) (c : Col) (t : ℕ) (row : Arrival)
     → list_any (λ s. same_col s.0 c) cols ≡ false → row_worth cols c t row ≡ 0
 nothing_of_row cols c t row none =
     ap (λ (n : ℕ). cond (is_live t row) n zero)
@@ -122,29 +122,26 @@ sum_of_nothing f none n (x ∷ xs) =
     let zero_here = none x in
     ap (λ m. fold (λ n x. n + f x) m xs) (omega (arith, zero_here)) ∙ sum_of_nothing f none n xs
 
-pub worth_stored : (cols : List (Col × ℕ)) (t : ℕ) (rows : List (ℕ × Row)) (c : Col)
-    → among (λ col. rows_worth cols col t rows) cols c ≡ rows_worth cols c t rows
-worth_stored cols t rows c = by (list_any (λ s. same_col s.0 c) cols) refl
-  where
-    by : (b : Bool) → list_any (λ s. same_col s.0 c) cols ≡ b
-        → cond b (rows_worth cols c t rows) 0 ≡ rows_worth cols c t rows
-    by true is = refl
-    by false is =
-        sym (sum_of_nothing (λ (p : ℕ × Row). row_worth cols c t (as_arrival p.1))
-        (λ p. nothing_of_row cols c t (as_arrival p.1) is) 0 rows)
+pub nothing_of_rows : (cols : List (Col × ℕ)) (t : ℕ) (rows : List (ℕ × Row)) (c : Col)
+    → list_any (λ s. same_col s.0 c) cols ≡ false → rows_worth cols c t rows ≡ 0
+nothing_of_rows cols t rows c none =
+    sum_of_nothing (λ (p : ℕ × Row). row_worth cols c t (as_arrival p.1))
+    (λ p. nothing_of_row cols c t (as_arrival p.1) none) 0 rows
 
-all_stored : (cols : List (Col × ℕ)) (t : ℕ) (rows : List (ℕ × Row))
-    → map (among (λ col. rows_worth cols col t rows) cols) all_cols
-    ≡ map (λ col. rows_worth cols col t rows) all_cols
-all_stored cols t rows = λ i. map (λ c. worth_stored cols t rows c i) all_cols
+-- ---- all columns, of which those that aren't stored are worth nothing
+module _ (worth : Col → ℕ) (cols : List (Col × ℕ))
+    (nothing : (c : Col) → list_any (λ s. same_col s.0 c) cols ≡ false → worth c ≡ 0) where
+  worth_stored : (c : Col) → among worth cols c ≡ worth c
+  worth_stored c = by (list_any (λ s. same_col s.0 c) cols) refl
+    where
+      by : (b : Bool) → list_any (λ s. same_col s.0 c) cols ≡ b → cond b (worth c) 0 ≡ worth c
+      by true is = refl
+      by false is = sym (nothing c is)
 
--- where all stored columns have their values, all columns have
-pub all_done : (cols : List (Col × ℕ)) (t : ℕ) (rows : List (ℕ × Row)) (i : ℕ) (values : List ℕ)
-    → length cols ≤ i
-    → values ≡ map (among (λ col. rows_worth cols col t rows) (take i cols)) all_cols
-    → values ≡ map (λ col. rows_worth cols col t rows) all_cols
-all_done cols t rows i values all so_far =
-    so_far
-    ∙ ap (λ (l : List (Col × ℕ)). map (among (λ col. rows_worth cols col t rows) l) all_cols)
-    (take_whole cols i all)
-    ∙ all_stored cols t rows
+  -- where all stored columns have their values, all columns have
+  pub all_done : (i : ℕ) (values : List ℕ) → length cols ≤ i
+      → values ≡ map (among worth (take i cols)) all_cols → values ≡ map worth all_cols
+  all_done i values all so_far =
+      so_far
+      ∙ ap (λ (l : List (Col × ℕ)). map (among worth l) all_cols) (take_whole cols i all)
+      ∙ (λ i. map (λ c. worth_stored c i) all_cols)

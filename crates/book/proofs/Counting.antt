@@ -44,7 +44,7 @@ short-life : (life : Option ℕ) → life_fits life ≡ true → IsShort life
 short-life None fits = tt
 short-life (Some n) fits = grind (arith, nat_tests)
 
-placed : (config : Config) (what : What) → fits config what ≡ true → FitsPlace config what
+pub placed : (config : Config) (what : What) → fits config what ≡ true → FitsPlace config what
 placed config Sit fit = tt
 placed config (Open peer) fit = tt
 placed config (Put peer table key life cells) fit =

@@ -97,7 +97,7 @@ done state e (Put peer table key life cells) sound is counts =
       moment = refl;
       others = λ t other apart. put_apart state
           (is_number (session_of state peer) e.seat
-          && has_room state.config.tables state.rows place)
+          && has_room state.config state.rows place life)
           place (arrival_of state.config.tables table state.moment life cells) sound.ordered.rows t
           other apart;
     }

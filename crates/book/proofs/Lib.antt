@@ -12,6 +12,7 @@ pub mod Leading
 pub mod FirstKeys
 pub mod Judging
 pub mod Dropped
+pub mod Together
 pub mod Prepared
 pub mod Updates
 pub mod Following
@@ -19,6 +20,10 @@ pub mod FewReads
 pub mod Columns
 pub mod Heads
 pub mod Meeting
+pub mod KeyOrder
+pub mod Firsts
+pub mod FirstSought
 pub mod Ahead
 pub mod OneKeyed
 pub mod Clearing
+pub mod ByPeer

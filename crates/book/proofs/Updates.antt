@@ -109,6 +109,7 @@ sound_counted s seat n h = record {
   };
   live = h.live;
   within_sizes = h.within_sizes;
+  within_bound = h.within_bound;
   rows = h.rows;
 }
 
@@ -191,6 +192,7 @@ sound_update s seat peer what sound update =
       };
       live = later.live;
       within_sizes = later.within_sizes;
+      within_bound = later.within_bound;
       rows = later.rows;
     }
 

@@ -18,3 +18,6 @@ pub mod Runs
 pub mod Uses
 pub mod Flips
 pub mod Gone
+pub mod ByPeer
+pub mod Foretold
+pub mod First

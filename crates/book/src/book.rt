@@ -1,12 +1,16 @@
 ghost use Rattle.std.specs.Prelude.{◌≡◌, ◌<◌, ◌≤◌, ℕ, List, map, length, nat_lt, take};
 ghost use Rattle.std.specs.Prelude.{false, [], ◌∷◌, ◌++◌, IfOk, IsOk, OnOk, OnErr};
+ghost use Rattle.std.specs.Option.{option_copied};
 ghost use Rattle.agg_types.specs.Check.{config_faults};
 ghost use Rattle.agg_types.specs.declared.config.Config.{Config};
 ghost use Rattle.agg_types.specs.declared.event.Event.{Event};
 ghost use Rattle.agg_types.specs.declared.event.What.TheVariants.{Leave};
 ghost use Rattle.agg_types.specs.declared.limits.TheConstants.{LAST_MOMENT, MOST_SEATS};
+ghost use Rattle.agg_types.specs.declared.limits.TheConstants.{MOST_CONDS};
 ghost use Rattle.fleet_model.specs.Answers.{filter_of, keys_of, listed, set_at, summed};
+ghost use Rattle.fleet_model.specs.Changes.{IsKeyChange};
 ghost use Rattle.fleet_model.specs.Filters.{is_added};
+ghost use Rattle.fleet_model.specs.Keys.{holds};
 ghost use Rattle.fleet_model.specs.Machine.{after, counts_now, number_of, opened};
 ghost use Rattle.fleet_model.specs.Machine.{session_of};
 ghost use Rattle.fleet_model.specs.Next.{IsNextChange};
@@ -14,24 +18,28 @@ ghost use Rattle.fleet_model.specs.Ranking.{rank_of, ranked};
 ghost use Rattle.fleet_model.specs.Rows.{held_rows};
 ghost use Rattle.fleet_model.specs.Sound.{IsSound};
 ghost use Rattle.fleet_model.specs.State.{IsStateOf};
+ghost use Rattle.book.specs.ByPeer.{peer_rows};
 ghost use Rattle.book.specs.Dropped.{is_dropped};
+ghost use Rattle.book.specs.First.{first_behind};
 ghost use Rattle.book.specs.Flips.{TellsAllIfKnown};
 ghost use Rattle.book.specs.Reads.{IsFewFor, IsQuietTo};
 ghost use Rattle.book_frame.specs.Lent.{listed_where, shown_row};
 
+use crate::by_peer::PeerRows;
 use crate::drops::Drops;
+use crate::first::Sought;
 use crate::listing::BookRows;
 use crate::machine::Machine;
 use crate::queries;
 use crate::ranking::Ranked;
 use crate::verdicts::Verdicts;
-use agg_types::{Cond, Config, Event, Key, LentWhat, NoMemory};
+use agg_types::{Cond, Config, Event, Filter, Key, LentWhat, NoMemory};
 use book_frame::seats;
 use book_frame::seats::has_free_seat;
 use book_frame::standing::added_at;
 use fleet_model::Summed;
 use peer_rows::Spot;
-use standing_filters::{Flips, Keys};
+use standing_filters::{Flips, Keys, Verdict};
 use std::alloc::Global;
 use std::marker::Model;
 
@@ -42,8 +50,9 @@ pub struct Taken {
     /// none where the key had no rows or they weren't seen lately, or where the event isn't a Put
     /// that counts.
     pub spot: Option<Spot>,
-    /// Whether it is an update that a full table didn't take: of a key that its peer holds no row
-    /// of, where it holds as many rows of the table as the table's size.
+    /// Whether it is an update that wasn't taken for want of room: of a key that its peer holds no
+    /// row of, where it holds as many rows of the table as the table's size, or all peers together
+    /// as many as the configuration's bound.
     pub dropped: bool,
     /// How many values of keys were read for the standing filters.
     pub read: u64,
@@ -71,7 +80,7 @@ impl Taken {
 pub struct Book {
     pub(crate) machine: Machine,
     pub(crate) verdicts: Verdicts,
-    // what full tables didn't take
+    // what wasn't taken for want of room
     pub(crate) drops: Drops,
 }
 
@@ -240,6 +249,24 @@ impl Book {
         self.machine.summed(table, key)
     }
 
+    /// The rows that the peers hold of a key, each as it stands now, by peer. Takes no memory.
+    pub fn peer_rows(&self, table: usize, key: &Key) -> PeerRows<'_>
+        ensures { result ≡ peer_rows self.now table key.now }
+    {
+        self.machine.peer_rows(table, key)
+    }
+
+    /// Whether a filter holds a key now, and the first moment above the book's, in ms, at which
+    /// that changes for this key, if only the clock goes on. The filter need not stand. Takes no
+    /// memory.
+    pub fn verdict(&self, filter: &Filter, key: &Key) -> Verdict
+        requires { length filter.now.conds ≤ MOST_CONDS }
+        ensures holds { result.holds ≡ holds self.now filter.now key.now self.now.moment }
+        ensures next { IsKeyChange self.now filter.now key.now result.next }
+    {
+        self.machine.verdict(filter, key)
+    }
+
     /// The keys of a table with a row, in order.
     #[tactic(auto, unfolding(fleet_model::specs::Answers::keys_of))]
     pub fn keys(&self, alloc: Global, table: usize) -> Result<Vec<&Key>, NoMemory>
@@ -266,7 +293,7 @@ impl Book {
         self.machine.rows_held(table, peer) as u64
     }
 
-    /// How many updates of a peer were dropped since the opening as a table was full for it: those
+    /// How many updates of a peer were dropped since the opening for want of room: those
     /// of which `step_at` said so. A clear and a lost connection leave the count, and where it
     /// can't grow it stays. Takes no memory.
     ///
@@ -297,6 +324,24 @@ impl Book {
         fleet_model::laws::keys::a_key_answers_by_its_rows();
         fleet_model::laws::keys::a_set_is_the_keys_that_hold();
         self.machine.meeting(alloc, table, conds)
+    }
+
+    /// The first keys of that listing, each with its summed row: so many at most, of those behind a
+    /// key. They are kept while the rows are walked: takes memory for at most twice as many, however
+    /// many meet the conditions.
+    pub fn first_rows(
+        &self,
+        alloc: Global,
+        table: usize,
+        sought: Sought<'_>,
+    ) -> Result<BookRows<'_>, NoMemory>
+        ensures { IfOk result (λ rows. map shown_row rows
+            ≡ first_behind sought.entry.most (option_copied sought.entry.after)
+            (listed_where self.now table sought.entry.conds.now)) }
+    {
+        fleet_model::laws::keys::a_key_answers_by_its_rows();
+        fleet_model::laws::keys::a_set_is_the_keys_that_hold();
+        self.machine.first_meeting(alloc, table, sought)
     }
 
     /// The keys that a standing filter holds, in order. Takes no memory.
@@ -334,5 +379,19 @@ impl Book {
     {
         standing_filters::laws::first_change_is_the_sets();
         self.verdicts.standing.next_change(filter)
+    }
+
+    /// The moment, in ms, of the next portion where the clock is to go on to `t`: behind the book's,
+    /// and such that at most so many keys of each table are looked at for rows that end by then, and
+    /// of each filter for verdicts that change, or only those of a single moment. Takes no memory.
+    ///
+    /// No clause counts the keys.
+    pub fn few_by(&self, t: u64, most: usize) -> u64
+        ensures by { result ≤ t }
+        ensures behind { self.now.moment < t → self.now.moment < result }
+    {
+        let by = self.machine.rows.few_by(t, most);
+        let by = self.verdicts.standing.few_by(by, most);
+        by.max(self.machine.moment.saturating_add(1)).min(t)
     }
 }

@@ -1,4 +1,4 @@
-//! How many updates full tables didn't take.
+//! How many updates weren't taken for want of room.
 
 use crate::store::Size;
 use agg_types::{LentWhat, NoMemory, What};

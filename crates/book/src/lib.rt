@@ -36,7 +36,7 @@
 //! where filters come or go, where a filter's table is cleared whole, and where an allocation for
 //! it failed.
 //!
-//! `Taken` says whether an event is an update that a full table doesn't take. A book counts these
+//! `Taken` says whether an event is an update that isn't taken for want of room (`rooms`). A book counts these
 //! by table and peer, beside what contracts see of it. So what `Book::dropped` answers, tests show.
 //!
 //! Speed is measured, not promised. An end stays planned where it was while its row's end only
@@ -48,9 +48,12 @@ mod adding;
 mod applying;
 mod at;
 mod book;
+mod by_peer;
 mod clears;
 mod drops;
+mod first;
 mod foreseen;
+mod foretold;
 mod forgetting;
 mod gone;
 mod leaders;
@@ -67,6 +70,7 @@ mod preparing;
 mod puts;
 mod queries;
 mod ranking;
+mod rooms;
 mod row;
 mod runs;
 mod store;
@@ -77,9 +81,11 @@ mod values;
 mod verdicts;
 
 pub use book::{Book, Taken};
+pub use by_peer::{PeerRow, PeerRows};
+pub use first::Sought;
 pub use fleet_model::Summed;
 pub use listing::BookRows;
 pub use named::keys_named;
 pub use peer_rows::Spot;
 pub use ranking::Ranked;
-pub use standing_filters::{Flip, Flips, Keys};
+pub use standing_filters::{Flip, Flips, Keys, Verdict};

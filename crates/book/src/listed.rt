@@ -2,7 +2,10 @@
 
 ghost use Rattle.std.specs.Prelude.{◌≡◌, ◌<◌, ℕ, slice_index_or};
 ghost use Rattle.std.specs.Cmp.Lexicographic.{slice_cmp};
-ghost use Rattle.std.specs.Ordering.{nat_cmp};
+ghost use Rattle.std.specs.List.{IsDistinct};
+ghost use Rattle.std.specs.List.Sorted.{IsPermutation, IsStrictlySortedBy};
+ghost use Rattle.std.specs.Map.{keys_of};
+ghost use Rattle.std.specs.Ordering.{eq_by_cmp, nat_cmp};
 ghost use Rattle.book.specs.Heads.{IsHead};
 ghost use Rattle.book.specs.Listing.{sums_of};
 
@@ -78,6 +81,19 @@ impl<'a> Listed<'a> {
         }
         self.key.cmp(other.key)
     }
+}
+
+/// Puts keys, each of which stands once, in order.
+pub(crate) fn sort(keys: &mut Vec<Listed<'_>>)
+    ensures moved { IsPermutation keys.old.items keys.new.items }
+    ensures in_order { IsDistinct (eq_by_cmp (slice_cmp nat_cmp)) (keys_of keys.old.items)
+        → IsStrictlySortedBy (slice_cmp nat_cmp) (keys_of keys.new.items) }
+{
+    keys.sort_unstable_by(
+        |a: &Listed<'_>, b: &Listed<'_>| -> Ordering
+            ensures { result ≡ slice_cmp nat_cmp a.now.0 b.now.0 }
+        { a.order(b) },
+    );
 }
 
 // The number of the first eight bytes, the first one the greatest, with zeros behind a shorter key.

@@ -3,19 +3,16 @@
 ghost use Rattle.std.specs.Prelude.{◌≡◌, length, filter, IfOk};
 ghost use Rattle.std.specs.Iterator.{at_most};
 ghost use Rattle.std.specs.Map.Iter.{TakesFirst};
-ghost use Rattle.std.specs.Cmp.Lexicographic.{slice_cmp};
-ghost use Rattle.std.specs.Ordering.{nat_cmp};
 ghost use Rattle.book_frame.specs.Lent.{key_and_sums};
 ghost use Rattle.book.specs.Listing.{AreMeeting, ListsMeeting, rows_meet, summed_up};
 
-use crate::listed::Listed;
+use crate::listed::{Listed, sort};
 use crate::store::Store;
 use crate::values::found_meets;
 use agg_types::{Col, Cond, Key, NoMemory};
 use fleet_model::Summed;
 use peer_rows::EachKey;
 use std::alloc::Global;
-use std::cmp::Ordering;
 use std::marker::Model;
 use std::vec::IntoIter;
 
@@ -53,8 +50,8 @@ impl<'a> Model for BookRows<'a> {
 }
 
 impl<'a> BookRows<'a> {
-    // The rows of these keys, summed up at a moment.
-    fn new(keys: Vec<Listed<'a>>, cols: &'a [(Col, u32)], t: u64) -> BookRows<'a>
+    /// The rows of these keys, summed up at a moment.
+    pub(crate) fn new(keys: Vec<Listed<'a>>, cols: &'a [(Col, u32)], t: u64) -> BookRows<'a>
         ensures { result ≡ summed_up cols.now t keys.entry.items }
     {
         BookRows {
@@ -91,11 +88,7 @@ pub fn meeting<'a>(
     ensures { IfOk result (λ rows. ListsMeeting store.now.rows table cols.now conds.now t rows) }
 {
     let mut keys = found(alloc, store, cols, table, conds, t)?;
-    keys.sort_unstable_by(
-        |a: &Listed<'_>, b: &Listed<'_>| -> Ordering
-            ensures { result ≡ slice_cmp nat_cmp a.now.0 b.now.0 }
-        { a.order(b) },
-    );
+    sort(&mut keys);
     Ok(BookRows::new(keys, cols, t))
 }
 

@@ -12,6 +12,7 @@ ghost use Rattle.fleet_model.specs.Seats.{is_number};
 ghost use Rattle.fleet_model.specs.Values.{cols_of, selects};
 ghost use Rattle.book.specs.Gone.{is_gone, without_keys};
 ghost use Rattle.book.specs.declared.gone.Gone.TheVariants.{Nothing};
+ghost use Rattle.book.specs.First.{ListsFirst};
 ghost use Rattle.book.specs.Leading.{AreLed};
 ghost use Rattle.book.specs.Listing.{ListsMeeting};
 ghost use Rattle.book.specs.Planned.{IsInside, IsShort, place_at};
@@ -20,6 +21,7 @@ ghost use Rattle.book.specs.Uses.{has_list};
 
 use crate::at::At;
 use crate::clears::{clear_one, clear_table, clear_where};
+use crate::first::{Sought, first_meeting};
 use crate::gone::Gone;
 use crate::leaders::put_led;
 use crate::listing::{BookRows, meeting};
@@ -40,7 +42,7 @@ use std::marker::Model;
 pub(crate) struct Applied {
     /// Where the rows of a Put's key lay before it, if that was seen.
     pub(crate) spot: Option<Spot>,
-    /// Whether it is an update that a full table didn't take.
+    /// Whether it is an update that wasn't taken for want of room.
     pub(crate) dropped: bool,
 }
 
@@ -203,6 +205,20 @@ impl Machine {
         meeting(alloc, &self.rows, cols, table, conds, self.moment)
     }
 
+    /// The first keys of a table that are sought, each with its summed row.
+    pub(crate) fn first_meeting(
+        &self,
+        alloc: Global,
+        table: usize,
+        sought: Sought<'_>,
+    ) -> Result<BookRows<'_>, NoMemory>
+        ensures { IfOk result (λ rows. ListsFirst self.now.rows table
+            (cols_of self.now.config.tables table) self.now.moment sought.entry rows) }
+    {
+        let cols = cols_of(self.config.tables.as_slice(), table);
+        first_meeting(alloc, &self.rows, cols, table, self.moment, sought)
+    }
+
     /// Whether a filter is taken as it is added: fewer stand than may, and none has its name.
     pub(crate) fn takes(&self, filter: &Filter) -> bool
         ensures { result ≡ is_new self.now.config.filters filter.now }
@@ -274,20 +290,20 @@ pub(crate) fn put(
     requires led { AreLed config.now.tables config.now.ranks rows.old.rows t leaders.old }
     ensures ok { OnOk result (rows.new ≡ record rows.old {
       rows = if is_number session seat
-          && has_room config.now.tables rows.old.rows (place_at at.entry)
+          && has_room config.now rows.old.rows (place_at at.entry) life
           then with_row t rows.old.rows (place_at at.entry)
           (arrival_of config.now.tables at.entry.table t life (lent_cells cells.entry))
           else rows.old.rows;
     }) }
     ensures dropped { IfOk result (λ applied. applied.dropped ≡ (is_number session seat
-        && not (has_room config.now.tables rows.old.rows (place_at at.entry)))) }
+        && not (has_room config.now rows.old.rows (place_at at.entry) life))) }
     ensures err { OnErr result (rows.new ≡ rows.old) }
     ensures led { AreLed config.now.tables config.now.ranks rows.new.rows t leaders.new }
 {
     if !is_number(session, seat) {
         return Ok(Applied::unseen());
     }
-    if !rows.has_room(config.tables.as_slice(), at) {
+    if !rows.has_room(config, at, life) {
         return Ok(Applied {
             spot: at.spot,
             dropped: true,

@@ -81,7 +81,8 @@ pub fn tally(rows: OfKey<'_>, t: u64) -> Option<(usize, Option<u64>)>
     so_far
 }
 
-fn left_of(t: u64, row: &Row) -> Option<u64>
+/// How long a row has left, in ms, or none where it never ends.
+pub fn left_of(t: u64, row: &Row) -> Option<u64>
     ensures { result ≡ left_of t (as_arrival row.now) }
 {
     let ends = row.ends()?;

@@ -215,7 +215,7 @@ impl Machine {
             table,
             key,
             peer,
-            spot: self.rows.spot_for(hint, table_use.is_ranked, table, key),
+            spot: self.spot_for(hint, table_use.is_ranked, table, key),
             is_ranked: table_use.is_ranked,
         };
         self.put_row(turn.session, turn.seat, at, life, cells)

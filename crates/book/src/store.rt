@@ -10,7 +10,6 @@ ghost use Rattle.agg_types.specs.declared.limits.TheConstants.{LAST_MOMENT};
 ghost use Rattle.fleet_model.specs.Machine.{with_row};
 ghost use Rattle.std.specs.List.{list_any};
 ghost use Rattle.fleet_model.specs.Moments.{is_live};
-ghost use Rattle.fleet_model.specs.Rows.{has_room, size_of};
 ghost use Rattle.fleet_model.specs.Values.{same_key, same_place};
 ghost use Rattle.fleet_model.specs.Keys.{AreInOrder, held_rows, key_rows, worth_of};
 ghost use Rattle.book.specs.Shown.{of_peer, of_spot};
@@ -21,7 +20,7 @@ ghost use Rattle.book.specs.Store.{with_arrived};
 use crate::at::At;
 use crate::puts::{arrive, drop_key, drop_row, drop_table, lay_row, set_row, short};
 use crate::values::{arriving_worth, found_bound};
-use agg_types::{Col, Key, LentCells, NoMemory, Shape};
+use agg_types::{Col, Key, LentCells, NoMemory};
 use peer_rows::{Arrival, ByKey, EachKey, OfKey, Row, Rows, Spot, Trace};
 use std::alloc::Global;
 use std::marker::Model;
@@ -78,6 +77,14 @@ impl Store {
             ≡ record self.old { rows = filter (λ row. is_live t row.1) self.old.rows } }
     {
         self.rows.end_rows(t, told)
+    }
+
+    /// A moment up to `t` by which few keys of each table are looked at: so many, or those of one
+    /// moment.
+    pub(crate) fn few_by(&self, t: u64, most: usize) -> u64
+        ensures { result ≤ t }
+    {
+        self.rows.few_by(t, most)
     }
 
     /// Where the rows of a key may lie, for the calls that take an `At`: what the hint says. Where
@@ -307,26 +314,13 @@ impl Store {
 
     /// Whether there is a row at a place.
     #[inline(never)]
-    fn has_row(&self, at: At<'_>) -> bool
+    pub(crate) fn has_row(&self, at: At<'_>) -> bool
         requires { IsInside self.now.peers self.now.tables (place_at at) }
         ensures { result ≡ list_any (λ row. same_place (place_at at.entry) row.0) self.now.rows }
     {
         self.rows
             .get_at(at.spot, at.peer, at.table, at.key)
             .is_some()
-    }
-
-    /// Whether a peer may put a row at a place: it holds one there, or fewer of the table than its
-    /// size.
-    #[tactic(auto, unfolding(fleet_model::specs::Rows::has_room))]
-    #[inline(always)]
-    pub(crate) fn has_room(&self, tables: &[Shape], at: At<'_>) -> bool
-        requires { IsInside self.now.peers self.now.tables (place_at at) }
-        ensures exact { result ≡ has_room tables.now self.now.rows (place_at at.entry) }
-        ensures ordered { AreInOrder self.now.rows }
-    {
-        let size = size_of(tables, at.table);
-        (self.held(at.table, at.peer) as u64) < size || self.has_row(at)
     }
 
     /// At least what a key is worth in a column as a row of it arrives at a moment, before it and
@@ -373,15 +367,6 @@ impl Store {
         if table < self.size.tables {
             drop_key(&mut self.rows, self.size, table, key);
         }
-    }
-}
-
-fn size_of(tables: &[Shape], table: usize) -> u64
-    ensures { result ≡ size_of tables.now table }
-{
-    match tables.get(table) {
-        None => 0,
-        Some(shape) => shape.size,
     }
 }
 

@@ -1,6 +1,6 @@
 //! What an event makes of the machine.
 
-ghost use Rattle.std.specs.Prelude.{◌≡◌, ◌&&◌, true, IsTrue, IfOk, IsOk};
+ghost use Rattle.std.specs.Prelude.{◌≡◌, ◌<◌, ◌&&◌, length, true, IsTrue, IfOk, IsOk};
 ghost use Rattle.std.specs.Prelude.{OnErr, OnOk, nat_lt};
 ghost use Rattle.agg_types.specs.Whats.{as_what, lent_cells};
 ghost use Rattle.agg_types.specs.declared.event.What.TheVariants.{Leave};
@@ -20,7 +20,7 @@ ghost use Rattle.book.specs.Verdicts.{IsLeaving};
 use crate::at::At;
 use crate::leaders::go_on;
 use crate::machine::{Applied, Machine, Outcome, clear, put};
-use agg_types::{LentCells, LentWhat, NUMBERS_END, NoMemory, What};
+use agg_types::{Key, LentCells, LentWhat, NUMBERS_END, NoMemory, What};
 use book_frame::seats;
 use book_frame::seats::{count_up, end_sessions, is_number, open_session, sit_down, stand_up};
 use book_frame::standing::{add_filter, added_at, drop_filter};
@@ -90,6 +90,23 @@ impl Machine {
         self.counts(seat, seq, what)
     }
 
+    /// Where the rows of an update's key may lie: what the hint says. Where there is none, they are
+    /// searched for if they are read before the row is put: for a ranked list, or since all rows
+    /// have a bound.
+    #[inline(always)]
+    pub(crate) fn spot_for(
+        &self,
+        hint: Option<Spot>,
+        is_ranked: bool,
+        table: usize,
+        key: &Key,
+    ) -> Option<Spot>
+        requires { table < length self.now.config.tables }
+    {
+        let are_read = is_ranked || self.config.rows.is_some();
+        self.rows.spot_for(hint, are_read, table, key)
+    }
+
     /// One event that counts, as the machine of one event says, whatever the hint; nothing has
     /// changed after `NoMemory`.
     #[tactic(auto, unfolding(crate::specs::Dropped::is_dropped, fleet_model::specs::Machine::after))]
@@ -125,7 +142,7 @@ impl Machine {
                     table,
                     key,
                     peer,
-                    spot: self.rows.spot_for(hint, is_ranked, table, key),
+                    spot: self.spot_for(hint, is_ranked, table, key),
                     is_ranked,
                 };
                 Ok(Outcome::of(self.apply_put(seat, seq, at, life, cells)?))
@@ -237,7 +254,7 @@ impl Machine {
                     table: *table,
                     key,
                     peer: *peer,
-                    spot: self.rows.spot_for(hint, is_ranked, *table, key),
+                    spot: self.spot_for(hint, is_ranked, *table, key),
                     is_ranked,
                 };
                 let cells = LentCells::Slice(cells.as_slice());

@@ -1,5 +1,5 @@
-//! Lines of the log on what a collector does so that it stays served, and lets nobody in who isn't an
-//! operator.
+//! Lines of the log on what a collector does so that it stays served, and lets nobody in who isn't
+//! an operator.
 
 use std::fmt;
 use std::net::SocketAddr;

@@ -1,5 +1,6 @@
 //! Lines that come in floods: which are told, and what is told in place of the others.
 
+use crate::alarms::Alarm;
 use crate::log::{Event, Value, write_time};
 use std::alloc::Global;
 use std::net::{IpAddr, Ipv6Addr, SocketAddr};
@@ -135,7 +136,10 @@ impl<'a> fmt::Display for Source<'a> {
             Event::StrangerGone {
                 address: Some(address),
                 ..
-            } => write!(f, " address={}", Network(address)),
+            }
+            | Event::Alarm(Alarm::HttpAtAdmin {
+                address: Some(address),
+            }) => write!(f, " address={}", Network(address)),
             _ => Ok(()),
         }
     }

@@ -1,5 +1,6 @@
 -- Words that are joined, and words behind spaces.
-use Rattle.std.proofs.Common.{◌≡◌, ℕ, List, [], ◌∷◌, ◌++◌, map, codes, sym, ap, ◌∙◌}
+use Rattle.std.proofs.Common.{◌≡◌, ℕ, List, [], ◌∷◌, ◌++◌, map, codes, sym, ap, ◌∙◌, refl}
+use Rattle.std.proofs.Common.{Option, None, Some}
 use Rattle.std.proofs.Common.{append_assoc, append-nil}
 use Rattle.std.proofs.lemmas.Grind.{flat_map-append}
 use Rattle.std.proofs.lemmas.List.Folds.{flat_map-map}
@@ -11,10 +12,10 @@ use Rattle.agg_types.specs.declared.config.Filter.{Filter}
 use Rattle.agg_types.specs.declared.config.Push.{Push}
 use Rattle.agg_types.specs.declared.config.Shape.{Shape}
 use Rattle.line_words.specs.Conditions.{condition_words}
-use Rattle.agg_config.specs.Written.{column_text, hold_words, kind_words}
-use Rattle.agg_config.specs.Written.{store_words, table_name, text_of}
+use Rattle.agg_config.specs.Written.{column_text, declaration_line, hold_words, keep_words}
+use Rattle.agg_config.specs.Written.{kind_words, rows_declared, store_words, table_name, text_of}
 use Rattle.config_text.specs.Spaced.{filter_line, filter_words, parts_text, push_line, push_words}
-use Rattle.config_text.specs.Spaced.{spaced, stored_words, table_end, table_line}
+use Rattle.config_text.specs.Spaced.{rows_line, spaced, stored_words, table_end, table_line}
 use Rattle.config_text.specs.Spaced.{table_words}
 
 -- what is joined by a byte is the first, and each other behind that byte
@@ -56,16 +57,25 @@ push_ended push =
 -- the line of a table, whatever the words for its kind of keys are
 ended_with : (shape : Shape) (words : List (List ℕ)) → join_with_byte 32 (codes "table"
     ∷ shape.name ∷ codes "type" ∷ (words ++ codes "size" ∷ decimal shape.size
-    ∷ store_words shape.cols)) ++ 10 ∷ []
+    ∷ (keep_words shape.keep ++ store_words shape.cols))) ++ 10 ∷ []
     ≡ codes "table" ++ 32 ∷ (shape.name ++ 32 ∷ (codes "type" ++ (spaced words ++ table_end shape)))
 ended_with shape words =
     ap (λ xs. xs ++ 10 ∷ []) (joined 32 (codes "table") (shape.name ∷ codes "type" ∷
-    (words ++ codes "size" ∷ decimal shape.size ∷ store_words shape.cols)))
+    (words ++ codes "size" ∷ decimal shape.size
+    ∷ (keep_words shape.keep ++ store_words shape.cols))))
     ∙ simp (flat_map-append, append_assoc)
 
 pub table_ended : (shape : Shape) → table_line shape ≡ table_words shape
 table_ended shape = ended_with shape (kind_words shape.kind)
 
+-- the line of a bound on all rows
+rows_ended : (rows : Option ℕ)
+    → flat_map (λ declaration. declaration_line declaration ++ 10 ∷ []) (rows_declared rows)
+    ≡ rows_line rows
+rows_ended None = refl
+rows_ended (Some rows) =
+    append-nil _ ∙ append_assoc (codes "rows") (32 ∷ decimal rows) (10 ∷ [])
+
 -- the text of a configuration
 pub whole : (config : Config) → text_of config ≡ parts_text config
-whole config = simp (flat_map-append, flat_map-map)
+whole config = simp (flat_map-append, flat_map-map, rows_ended)

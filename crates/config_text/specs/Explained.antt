@@ -13,7 +13,8 @@ use Rattle.agg_types.specs.declared.config.KeyKind.{KeyKind}
 use Rattle.agg_types.specs.declared.limits.TheConstants.{HOLD_END, LARGEST_SIZE, LONGEST_KEY}
 use Rattle.agg_types.specs.declared.limits.TheConstants.{LONGEST_NAME, LONGEST_RANK, MOST_FILTERS}
 use Rattle.agg_types.specs.declared.limits.TheConstants.{MOST_PEERS, MOST_PUSHES, MOST_RANKS}
-use Rattle.agg_types.specs.declared.limits.TheConstants.{MOST_TABLES, PERIOD_END, SHORTEST_HOLD}
+use Rattle.agg_types.specs.declared.limits.TheConstants.{MOST_ROWS, MOST_TABLES, PERIOD_END}
+use Rattle.agg_types.specs.declared.limits.TheConstants.{SHORTEST_HOLD}
 use Rattle.agg_config.specs.declared.causes.LineCause.{LineCause}
 use Rattle.agg_config.specs.declared.causes.LineCause.TheVariants.{Syntax, Number, Check, NoMemory}
 use Rattle.agg_config.specs.declared.causes.LineFault.{LineFault}
@@ -42,6 +43,7 @@ table_word place has_len =
     else if place == 4 then codes "ip, ipv6, integer, string or binary"
     else if (place == 5) && has_len then codes "len"
     else if (place == 5) || ((place == 7) && has_len) then codes "size"
+    else if (place == 7) || ((place == 9) && has_len) then codes "keep or store"
     else codes "store"
 
 -- the keyword of a place in a line of these words, where there is but one
@@ -77,18 +79,20 @@ form_named kind =
     if bytes_eq kind (codes "name") then codes "name <name>"
     else if bytes_eq kind (codes "peer") then codes "peer <name>"
     else if bytes_eq kind (codes "table")
-    then codes "table <name> type <type> size <rows> [store <column>,<rate>(<ms>)]"
+    then codes "table <name> type <type> size <rows> [keep <ms>] [store <column>,<rate>(<ms>)]"
     else if bytes_eq kind (codes "filter")
     then codes "filter <name> <table> data.<column> <operator> <number> .."
     else if bytes_eq kind (codes "rank") then codes "rank <name> <table> <column> <length>"
     else if bytes_eq kind (codes "push") then codes "push <filter> [hold <ms>]"
-    else codes "name, peer, table, filter, rank or push first"
+    else if bytes_eq kind (codes "rows") then codes "rows <n>"
+    else codes "name, peer, table, filter, rank, push or rows first"
 
 -- how a line of these words is written
 unfoldable pub form_of : List (List ℕ) → List ℕ
 form_of words =
     if wants_length words
-    then codes "table <name> type string|binary len <n> size <rows> [store <column>,<rate>(<ms>)]"
+    then codes "table <name> type string|binary len <n> size <rows> [keep <ms>] "
+    ++ codes "[store <column>,<rate>(<ms>)]"
     else form_named (word_at 1 words)
 
 -- a word as it is told: its bytes but spaces and what doesn't print, in quotes
@@ -114,7 +118,7 @@ misread_text misread words =
 -- what goes against the lines before
 abbrev pub check_text : ConfigFault → List ℕ
 check_text Duplicate =
-    codes "the name stands already, or a column twice; a pushed filter has no table's name"
+    codes "the name stands already, or a column or rows twice; a pushed filter has no table's name"
 check_text TooMany =
     codes "there may be " ++ decimal MOST_PEERS ++ codes " peers, " ++ decimal MOST_TABLES
     ++ codes " tables, " ++ decimal MOST_FILTERS ++ codes " filters, " ++ decimal MOST_RANKS
@@ -122,11 +126,12 @@ check_text TooMany =
 check_text UnknownTable = codes "no line before declares the table"
 check_text UnknownColumn = codes "the table doesn't store the column"
 check_text BadPeriod =
-    codes "a period is 1 to " ++ decimal (PERIOD_END - 1) ++ codes " ms, a hold "
+    codes "a period and a keep are 1 to " ++ decimal (PERIOD_END - 1) ++ codes " ms, a hold "
     ++ decimal SHORTEST_HOLD ++ codes " to " ++ decimal (HOLD_END - 1)
 check_text BadSize =
     codes "a size is 1 to " ++ decimal LARGEST_SIZE ++ codes ", a len 1 to "
     ++ decimal LONGEST_KEY ++ codes ", a ranked list's length 1 to " ++ decimal LONGEST_RANK
+    ++ codes ", rows 1 to " ++ decimal MOST_ROWS
 check_text BadName =
     codes "a name has 1 to " ++ decimal LONGEST_NAME ++ codes " bytes, each of 33 to 126"
 check_text UnknownFilter = codes "no line before declares the filter"

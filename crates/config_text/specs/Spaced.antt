@@ -1,5 +1,5 @@
 -- The lines of a configuration, and words behind spaces.
-use Rattle.std.specs.Prelude.{ℕ, List, [], ◌∷◌, ◌++◌, codes}
+use Rattle.std.specs.Prelude.{ℕ, List, [], ◌∷◌, ◌++◌, codes, Option, None, Some}
 use Rattle.std.specs.Fmt.{decimal}
 use Rattle.std.specs.List.{flat_map, join_with_byte}
 use Rattle.agg_types.specs.declared.column.Col.{Col}
@@ -10,7 +10,7 @@ use Rattle.agg_types.specs.declared.config.Rank.{Rank}
 use Rattle.agg_types.specs.declared.config.Shape.{Shape}
 use Rattle.line_words.specs.Conditions.{condition_words}
 use Rattle.agg_config.specs.Written.{column_text, declaration_line, filter_of}
-use Rattle.agg_config.specs.Written.{hold_words, kind_words, rank_of, store_words}
+use Rattle.agg_config.specs.Written.{hold_words, keep_words, kind_words, rank_of, store_words}
 
 -- words, each behind a space
 abbrev pub spaced : List (List ℕ) → List ℕ
@@ -27,8 +27,8 @@ named_line label name = label ++ 32 ∷ (name ++ 10 ∷ [])
 -- the line of a table
 abbrev pub table_line : Shape → List ℕ
 table_line shape = join_with_byte 32 (codes "table" ∷ shape.name ∷ codes "type" ∷
-    (kind_words shape.kind ++ codes "size" ∷ decimal shape.size ∷ store_words shape.cols))
-    ++ 10 ∷ []
+    (kind_words shape.kind ++ codes "size" ∷ decimal shape.size
+    ∷ (keep_words shape.keep ++ store_words shape.cols))) ++ 10 ∷ []
 
 -- the line of a standing filter of these tables
 abbrev pub filter_line : List Shape → Filter → List ℕ
@@ -46,7 +46,7 @@ push_line push =
 -- what stands behind the kind of a table's keys
 abbrev pub table_end : Shape → List ℕ
 table_end shape = 32 ∷ (codes "size" ++ 32 ∷ (decimal shape.size
-    ++ (spaced (store_words shape.cols) ++ 10 ∷ [])))
+    ++ (spaced (keep_words shape.keep) ++ (spaced (store_words shape.cols) ++ 10 ∷ []))))
 
 -- the same, piece by piece
 abbrev pub table_words : Shape → List ℕ
@@ -77,9 +77,15 @@ rank_lines config = flat_map (rank_line config.tables) config.ranks
 abbrev pub push_lines : Config → List ℕ
 push_lines config = flat_map push_line config.pushes
 
+-- the line of a bound on all rows, where there is one
+abbrev pub rows_line : Option ℕ → List ℕ
+rows_line None = []
+rows_line (Some rows) = codes "rows" ++ (32 ∷ (decimal rows ++ 10 ∷ []))
+
 -- the lines of a configuration, kind by kind
 abbrev pub parts_text : Config → List ℕ
 parts_text config = named_line (codes "name") config.me
     ++ (flat_map (named_line (codes "peer")) config.peers
     ++ (flat_map table_line config.tables
-    ++ (filter_lines config ++ (rank_lines config ++ push_lines config))))
+    ++ (filter_lines config ++ (rank_lines config
+    ++ (push_lines config ++ rows_line config.rows)))))

@@ -14,7 +14,7 @@ ghost use Rattle.agg_types.specs.declared.check.ConfigFault.TheVariants.{BadSize
 use agg_config::{LineCause, LineFault};
 use agg_types::limits::{
     HOLD_END, LARGEST_SIZE, LONGEST_KEY, LONGEST_NAME, LONGEST_RANK, MOST_FILTERS, MOST_PEERS,
-    MOST_PUSHES, MOST_RANKS, MOST_TABLES, PERIOD_END, SHORTEST_HOLD,
+    MOST_PUSHES, MOST_RANKS, MOST_ROWS, MOST_TABLES, PERIOD_END, SHORTEST_HOLD,
 };
 use agg_types::{ConfigFault, KeyKind, NoMemory};
 use key_text::{append_key, append_number, append_text};
@@ -32,7 +32,9 @@ const KIND_PLACE: usize = 4;
 
 const LENGTH_PLACE: usize = 5;
 
-const SIZE_PLACE: usize = 7;
+const BEHIND_SIZE: usize = 7;
+
+const BEHIND_LATER_SIZE: usize = 9;
 
 /// Appends what explains the faults of a text's lines, a line for each, with its LF.
 pub fn append_explanations(
@@ -147,8 +149,10 @@ fn table_word(place: usize, has_len: bool) -> &'static str
         "ip, ipv6, integer, string or binary"
     } else if place == LENGTH_PLACE && has_len {
         "len"
-    } else if place == LENGTH_PLACE || place == SIZE_PLACE && has_len {
+    } else if place == LENGTH_PLACE || place == BEHIND_SIZE && has_len {
         "size"
+    } else if place == BEHIND_SIZE || place == BEHIND_LATER_SIZE && has_len {
+        "keep or store"
     } else {
         "store"
     }
@@ -191,7 +195,8 @@ fn form_of(line: &[u8]) -> &'static str
     ensures { result.now ≡ form_of (words line.now) }
 {
     if wants_length(line) {
-        "table <name> type string|binary len <n> size <rows> [store <column>,<rate>(<ms>)]"
+        "table <name> type string|binary len <n> size <rows> [keep <ms>] \
+            [store <column>,<rate>(<ms>)]"
     } else {
         form_named(word_at(line, 1))
     }
@@ -205,15 +210,17 @@ fn form_named(kind: &[u8]) -> &'static str
     } else if kind == b"peer".as_slice() {
         "peer <name>"
     } else if kind == b"table".as_slice() {
-        "table <name> type <type> size <rows> [store <column>,<rate>(<ms>)]"
+        "table <name> type <type> size <rows> [keep <ms>] [store <column>,<rate>(<ms>)]"
     } else if kind == b"filter".as_slice() {
         "filter <name> <table> data.<column> <operator> <number> .."
     } else if kind == b"rank".as_slice() {
         "rank <name> <table> <column> <length>"
     } else if kind == b"push".as_slice() {
         "push <filter> [hold <ms>]"
+    } else if kind == b"rows".as_slice() {
+        "rows <n>"
     } else {
-        "name, peer, table, filter, rank or push first"
+        "name, peer, table, filter, rank, push or rows first"
     }
 }
 
@@ -238,7 +245,8 @@ fn append_check(fault: ConfigFault, out: &mut Vec<u8>) -> Result<(), NoMemory>
 {
     match fault {
         ConfigFault::Duplicate => append_text(
-            b"the name stands already, or a column twice; a pushed filter has no table's name",
+            b"the name stands already, or a column or rows twice; \
+                a pushed filter has no table's name",
             out,
         ),
         ConfigFault::TooMany => append_limits(out),
@@ -265,7 +273,7 @@ fn append_limits(out: &mut Vec<u8>) -> Result<(), NoMemory>
 fn append_periods(out: &mut Vec<u8>) -> Result<(), NoMemory>
     ensures { OnOk result (out.new.items ≡ out.old.items ++ check_text BadPeriod) }
 {
-    append_counted(b"a period is 1 to ", LAST_PERIOD, out)?;
+    append_counted(b"a period and a keep are 1 to ", LAST_PERIOD, out)?;
     append_counted(b" ms, a hold ", SHORTEST_HOLD, out)?;
     append_counted(b" to ", LAST_HOLD, out)
 }
@@ -275,7 +283,8 @@ fn append_sizes(out: &mut Vec<u8>) -> Result<(), NoMemory>
 {
     append_counted(b"a size is 1 to ", LARGEST_SIZE, out)?;
     append_counted(b", a len 1 to ", LONGEST_KEY, out)?;
-    append_counted(b", a ranked list's length 1 to ", LONGEST_RANK, out)
+    append_counted(b", a ranked list's length 1 to ", LONGEST_RANK, out)?;
+    append_counted(b", rows 1 to ", MOST_ROWS, out)
 }
 
 fn append_name_limits(out: &mut Vec<u8>) -> Result<(), NoMemory>

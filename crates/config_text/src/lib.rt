@@ -13,4 +13,4 @@ mod tables;
 mod words;
 
 pub use explained::{append_explanation, append_explanations};
-pub use lines::{append_config, append_filters, append_pushes, append_ranks};
+pub use lines::{append_config, append_filters, append_pushes, append_ranks, append_table};

@@ -2,11 +2,11 @@
 
 ghost use Rattle.std.specs.Prelude.{◌≡◌, ◌++◌, codes, OnOk};
 ghost use Rattle.std.specs.List.{flat_map};
-ghost use Rattle.agg_config.specs.Written.{hold_words, table_name, text_of};
+ghost use Rattle.agg_config.specs.Written.{hold_words, keep_words, table_name, text_of};
 ghost use Rattle.config_text.specs.Spaced.{filter_line, filter_lines, filter_words, named_line};
 ghost use Rattle.config_text.specs.Spaced.{parts_text, push_line, push_lines, push_words};
-ghost use Rattle.config_text.specs.Spaced.{rank_line, rank_lines, table_end, table_line};
-ghost use Rattle.config_text.specs.Spaced.{spaced, table_words};
+ghost use Rattle.config_text.specs.Spaced.{rank_line, rank_lines, rows_line, spaced, table_end};
+ghost use Rattle.config_text.specs.Spaced.{table_line, table_words};
 
 use crate::tables::{append_conditions, append_kind, append_store};
 use crate::words::{append_figure, append_word};
@@ -28,7 +28,16 @@ fn append_parts(config: &Config, out: &mut Vec<u8>) -> Result<(), NoMemory>
     append_tables(config.tables.as_slice(), out)?;
     append_filters(config, out)?;
     append_ranks(config, out)?;
-    append_pushes(config, out)
+    append_last(config, out)
+}
+
+// Appends the lines of pushed filters and of the bound on all rows.
+fn append_last(config: &Config, out: &mut Vec<u8>) -> Result<(), NoMemory>
+    ensures { OnOk result (out.new.items
+        ≡ out.old.items ++ (push_lines config.now ++ rows_line config.now.rows)) }
+{
+    append_pushes(config, out)?;
+    append_rows(config.rows, out)
 }
 
 /// Appends the lines of the standing filters.
@@ -91,7 +100,8 @@ fn append_named(label: &[u8], name: &Name, out: &mut Vec<u8>) -> Result<(), NoMe
     append_text(b"\n", out)
 }
 
-fn append_table(table: &Shape, out: &mut Vec<u8>) -> Result<(), NoMemory>
+/// Appends the line of a table.
+pub fn append_table(table: &Shape, out: &mut Vec<u8>) -> Result<(), NoMemory>
     ensures { OnOk result (out.new.items ≡ out.old.items ++ table_line table.now) }
 {
     append_table_words(table, out)
@@ -112,8 +122,21 @@ fn append_table_end(table: &Shape, out: &mut Vec<u8>) -> Result<(), NoMemory>
 {
     append_word(b"size", out)?;
     append_figure(table.size, out)?;
+    append_keep(table.keep, out)?;
     append_store(table.cols.as_slice(), out)?;
     append_text(b"\n", out)
+}
+
+fn append_keep(keep: Option<u64>, out: &mut Vec<u8>) -> Result<(), NoMemory>
+    ensures { OnOk result (out.new.items ≡ out.old.items ++ spaced (keep_words keep)) }
+{
+    match keep {
+        None => Ok(()),
+        Some(ms) => {
+            append_word(b"keep", out)?;
+            append_figure(ms, out)
+        }
+    }
 }
 
 // The name of a table; none where it isn't there, which no sound configuration has.
@@ -183,6 +206,20 @@ fn append_hold(hold: Option<u64>, out: &mut Vec<u8>) -> Result<(), NoMemory>
         Some(ms) => {
             append_word(b"hold", out)?;
             append_figure(ms, out)
+        }
+    }
+}
+
+// Appends the line of a bound on all rows, where there is one.
+fn append_rows(rows: Option<u64>, out: &mut Vec<u8>) -> Result<(), NoMemory>
+    ensures { OnOk result (out.new.items ≡ out.old.items ++ rows_line rows) }
+{
+    match rows {
+        None => Ok(()),
+        Some(rows) => {
+            append_text(b"rows", out)?;
+            append_figure(rows, out)?;
+            append_text(b"\n", out)
         }
     }
 }

@@ -8,9 +8,10 @@ ghost use Rattle.line_words.specs.Conditions.{condition_words};
 ghost use Rattle.agg_config.specs.Written.{length_words, store_words};
 ghost use Rattle.config_text.specs.Spaced.{column_behind, spaced, stored_words};
 
-use crate::words::{append_figure, append_word, operator_word};
+use crate::words::{append_figure, append_word};
 use agg_types::{Col, Cond, KeyKind, NoMemory};
 use key_text::{append_number, append_text};
+use line_words::operator_word;
 
 /// Appends the words for a kind of keys.
 pub(crate) fn append_kind(kind: KeyKind, out: &mut Vec<u8>) -> Result<(), NoMemory>

@@ -2,9 +2,8 @@
 
 ghost use Rattle.std.specs.Prelude.{◌≡◌, ◌++◌, ◌∷◌, OnOk};
 ghost use Rattle.std.specs.Fmt.{decimal};
-ghost use Rattle.line_words.specs.Operators.{operator_word};
 
-use agg_types::{NoMemory, Op};
+use agg_types::NoMemory;
 use key_text::{append_number, append_text};
 
 /// Appends a space and a word.
@@ -21,18 +20,4 @@ pub(crate) fn append_figure(number: u64, out: &mut Vec<u8>) -> Result<(), NoMemo
 {
     append_text(b" ", out)?;
     append_number(u128::from(number), out)
-}
-
-/// The word for a comparison.
-pub(crate) fn operator_word(op: Op) -> &'static [u8]
-    ensures { result.now ≡ operator_word op }
-{
-    match op {
-        Op::Eq => b"eq",
-        Op::Ne => b"ne",
-        Op::Le => b"le",
-        Op::Ge => b"ge",
-        Op::Lt => b"lt",
-        Op::Gt => b"gt",
-    }
 }

@@ -11,7 +11,8 @@ use Rattle.std.specs.Option.{option_map_or}
 use Rattle.std.specs.Prelude.{slice_get, slice_index_or}
 use Rattle.std.specs.Str.{bytes_eq}
 use Rattle.agg_types.specs.Check.{ascends, config_faults, each, fault_if, filter_faults, is_within}
-use Rattle.agg_types.specs.Check.{len_fits, peer_faults, period_fits, rank_faults, table_faults}
+use Rattle.agg_types.specs.Check.{keep_fits, len_fits, peer_faults, period_fits, rank_faults}
+use Rattle.agg_types.specs.Check.{table_faults}
 use Rattle.agg_types.specs.Col.{col_id, is_rate}
 use Rattle.agg_types.specs.Fits.{at_table, conds_fit, filter_fits, stores}
 use Rattle.agg_types.specs.Name.{is_name}
@@ -165,8 +166,10 @@ unfolding table_faults
 periods_fit before shape none =
     let sizes : Faults = fault_if (not (is_within shape.size 1000000 && len_fits shape.kind))
     BadSize in
-    let periods : Faults = fault_if (not (list_all period_fits shape.cols)) BadPeriod in
-    holds_from _ (was_no_fault _ BadPeriod (back_none _ periods (front_none _ sizes none)))
+    let times : Bool = list_all period_fits shape.cols && keep_fits shape.keep in
+    let both : times ≡ true = holds_from times (was_no_fault (not times) BadPeriod
+    (back_none _ (fault_if (not times) BadPeriod) (front_none _ sizes none))) in
+    (and_parts (list_all period_fits shape.cols) (keep_fits shape.keep) both).0
 
 tables_short : (before tables : List Shape) (table : ℕ) → each table_faults before tables ≡ []
     → longest_period (cols_of tables table) < 2 ^ 31

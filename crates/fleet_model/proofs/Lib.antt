@@ -8,6 +8,7 @@ pub mod Step
 pub mod Order
 pub mod Runs
 pub mod Sizes
+pub mod Together
 pub mod Unchanged
 pub mod Older
 pub mod Members

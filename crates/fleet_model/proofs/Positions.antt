@@ -98,7 +98,7 @@ happened_at s e (Open peer) q sorted lives = sym (live_kept s.moment q s.rows li
 happened_at s e (Put peer table key life cells) q sorted lives =
     let place : RowKey = record { table = table; key = key; peer = peer } in
     let arrival : Arrival = arrival_of s.config.tables table s.moment life cells in
-    elim (is_number (session_of s peer) e.seat && has_room s.config.tables s.rows place) as
+    elim (is_number (session_of s peer) e.seat && has_room s.config s.rows place life) as
     (λ b. row_at q (cond b (with_row s.moment s.rows place arrival) s.rows)
     ≡ next_row (then_some b (place, arrival)) false s.moment q (row_at q s.rows)) [
       | true ↦ put_row s.moment s.rows place q arrival sorted lives

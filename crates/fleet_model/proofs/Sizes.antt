@@ -26,20 +26,21 @@ use Rattle.fleet_model.specs.Laws.{IsWithinSizes}
 use Rattle.fleet_model.specs.Machine.{after, counts_now, happened, opened, session_of, with_put}
 use Rattle.fleet_model.specs.Machine.{with_row}
 use Rattle.fleet_model.specs.Moments.{is_live}
-use Rattle.fleet_model.specs.Rows.{has_room, arrival_of, rows_in, size_of}
+use Rattle.fleet_model.specs.Rows.{has_room, arrival_of, held_rows, rows_in, size_of, takes_more}
 use Rattle.fleet_model.specs.Seats.{is_number}
 use Rattle.fleet_model.specs.State.{State, state_of}
+use Rattle.fleet_model.specs.Values.{same_place}
 use Rattle.fleet_model.specs.declared.arrival.Arrival.{Arrival}
 
 abbrev Rows : Type 0
 Rows = List (RowKey × Arrival)
 
-count-cons : {X : Type 0} (p : X → Bool) (x : X) (xs : List X)
+pub count-cons : {X : Type 0} (p : X → Bool) (x : X) (xs : List X)
     → count_by p (x ∷ xs) ≡ cond (p x) 1 0 + count_by p xs
 count-cons p x xs = sum_by-cons (λ x. cond (p x) 1 0) x xs
 
 -- fewer rows stay
-count-filter : {X : Type 0} (p q : X → Bool) (xs : List X)
+pub count-filter : {X : Type 0} (p q : X → Bool) (xs : List X)
     → count_by p (filter q xs) ≤ count_by p xs
 count-filter p q [] = omega arith
 count-filter p q (x ∷ xs) =
@@ -51,7 +52,7 @@ count-filter p q (x ∷ xs) =
     ]
 
 -- one row more at most
-count-insert : (q : RowKey → Bool) (rows : Rows) (place : RowKey) (arrival : Arrival)
+pub count-insert : (q : RowKey → Bool) (rows : Rows) (place : RowKey) (arrival : Arrival)
     → count_by (λ r. q r.0) (insert_entry row_key_cmp rows place arrival) ≤ cond (q place) 1 0 +
     count_by (λ r. q r.0) rows
 count-insert q [] place arrival = let single = count-cons (λ (r : RowKey × Arrival). q r.0) (
@@ -82,7 +83,7 @@ none_above place x (e ∷ es) less h =
     ∙ none_above place x es less (second _ _ h)
 
 -- no row more where the place has one
-count-replace : (q : RowKey → Bool) (rows : Rows) (place : RowKey) (arrival : Arrival)
+pub count-replace : (q : RowKey → Bool) (rows : Rows) (place : RowKey) (arrival : Arrival)
     → T (is_sorted row_key_cmp rows) → list_any (λ r. is_eq (row_key_cmp place r.0)) rows ≡ true
     → count_by (λ r. q r.0) (insert_entry row_key_cmp rows place arrival) ≡ count_by (λ r. q r.0)
     rows
@@ -104,6 +105,12 @@ count-replace q (e ∷ es) place arrival h there =
     ] refl there
 
 -- ---- through each event
+room_of_size : (there fewer more : Bool) → (there || (fewer && more)) ≡ true
+    → (there || fewer) ≡ true
+room_of_size true fewer more h = refl
+room_of_size false true more h = refl
+room_of_size false false more h = h
+
 put_within : (size_at : ℕ → ℕ) (rows : Rows) (place : RowKey) (arrival : Arrival)
     → T (is_sorted row_key_cmp rows)
     → (list_any (λ r. is_eq (row_key_cmp place r.0)) rows
@@ -181,13 +188,16 @@ happened_within s e (Open opened) h within table peer = within table peer
 happened_within s e (Put from in_table key life cells) h within table peer =
     let place : RowKey = record { table = in_table; key = key; peer = from } in
     let arrival : Arrival = arrival_of s.config.tables in_table s.moment life cells in
-    elim (is_number (session_of s from) e.seat && has_room s.config.tables s.rows place) as
-    (λ b. (is_number (session_of s from) e.seat && has_room s.config.tables s.rows place) ≡ b
+    elim (is_number (session_of s from) e.seat && has_room s.config s.rows place life) as
+    (λ b. (is_number (session_of s from) e.seat && has_room s.config s.rows place life) ≡ b
     → count_by (λ r. (r.0.table == table) && (r.0.peer == peer))
     (cond b (with_row s.moment s.rows place arrival) s.rows) ≤ size_of s.config.tables table) [
       | true ↦ λ taken. row_within s.moment (size_of s.config.tables) s.rows place arrival h
-          (and_parts (is_number (session_of s from) e.seat) _ taken).1 table peer
-          (within table peer)
+          (room_of_size (list_any (λ r. same_place place r.0) s.rows)
+          (nat_lt (held_rows s.rows in_table from) (size_of s.config.tables in_table))
+          (is_number life 0 || takes_more s.config.rows s.rows)
+          (and_parts (is_number (session_of s from) e.seat) _ taken).1)
+          table peer (within table peer)
       | false ↦ λ dropped. within table peer
     ] refl
 happened_within s e (Clear in_table sel) h within table peer =
@@ -210,7 +220,7 @@ after_within s e h within = elim (counts_now s e) as
       | false ↦ within
     ]
 
-rows_sorted : (config : Config) (opening : ℕ) (events : List Event)
+pub rows_sorted : (config : Config) (opening : ℕ) (events : List Event)
     → T (is_sorted row_key_cmp (state_of config opening events).rows)
 unfolding state_of rows_in
 rows_sorted config opening events = by_place-sorted _

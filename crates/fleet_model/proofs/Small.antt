@@ -74,8 +74,8 @@ small_happened state e (Put peer table key life cells) fit h =
     let row : Arrival = arrival_of state.config.tables table state.moment life cells in
     record {
       moment = h.moment;
-      rows = small_put (is_number (session_of state peer) e.seat && has_room state.config.tables
-          state.rows place) (is_live state.moment row) state.rows place row h.rows
+      rows = small_put (is_number (session_of state peer) e.seat && has_room state.config
+          state.rows place life) (is_live state.moment row) state.rows place row h.rows
           (h.moment, small_life life (life_from state.config peer table key life cells fit));
     }
 small_happened state e (Clear table sel) fit h =

@@ -37,9 +37,10 @@ use Rattle.fleet_model.proofs.Every.{sorted_from}
 use Rattle.fleet_model.proofs.InForce.{row_key_cmp_exact, row_key_cmp_total}
 use Rattle.fleet_model.proofs.Runs.{along}
 use Rattle.fleet_model.proofs.Sizes.{happened_within}
+use Rattle.fleet_model.proofs.Together.{happened_bounded, opened_bounded}
 use Rattle.fleet_model.specs.Filters.{dropped, is_new}
 use Rattle.fleet_model.specs.Normalized.{normalized_cells}
-use Rattle.fleet_model.specs.Laws.{AreLive, IsOrdered, IsWithinSizes}
+use Rattle.fleet_model.specs.Laws.{AreLive, IsOrdered, IsWithinBound, IsWithinSizes}
 use Rattle.fleet_model.specs.Machine.{after, counts_now, happened, number_of, opened, session_of}
 use Rattle.fleet_model.specs.Machine.{with_event, with_put, with_row}
 use Rattle.fleet_model.specs.Moments.{is_live}
@@ -168,18 +169,20 @@ numbers-insert entries n m h = ordered-insert nat_cmp nat_cmp_total exact_unsign
 
 sound_as : (s : State) → config_faults s.config ≡ [] → s.moment ≤ LAST_MOMENT
     → AreSound s.config s.moment s.rows → Sorted s.sessions → Sorted s.seats
-    → IsWithinSizes s → IsSound s
+    → IsWithinSizes s × IsWithinBound s → IsSound s
 sound_as s checked in_range rows sessions seats within = record {
   checked = checked;
   in_range = in_range;
   ordered = record { rows = rows.ordered; sessions = sessions; seats = seats };
   live = rows.live;
-  within_sizes = within;
+  within_sizes = within.0;
+  within_bound = within.1;
   rows = rows.each;
 }
 
 happened_sound : (s : State) (e : Event) (w : What) → fits s.config w ≡ true → IsSound s
-    → IsWithinSizes (happened s e w) → IsSound (happened s e w)
+    → IsWithinSizes (happened s e w) × IsWithinBound (happened s e w)
+    → IsSound (happened s e w)
 unfolding happened with_put
 happened_sound s e Sit fit h within = sound_as (happened s e Sit) h.checked h.in_range
     (rows_are s h) h.ordered.sessions (numbers-insert s.seats e.seat (e.seq + 1) h.ordered.seats)
@@ -191,8 +194,8 @@ happened_sound s e (Open peer) fit h within =
 happened_sound s e (Put peer table key life cells) fit h within =
     let place : RowKey = record { table = table; key = key; peer = peer } in
     sound_as (happened s e (Put peer table key life cells)) h.checked h.in_range
-    (sound-put s.config s.moment (is_number (session_of s peer) e.seat && has_room s.config.tables
-    s.rows place) s.rows place (arrival_of s.config.tables table s.moment life cells)
+    (sound-put s.config s.moment (is_number (session_of s peer) e.seat && has_room s.config s.rows place
+    life) s.rows place (arrival_of s.config.tables table s.moment life cells)
     (row_sound s.config s.moment peer table key life cells fit) (rows_are s h))
     h.ordered.sessions (numbers-insert s.seats e.seat (e.seq + 1) h.ordered.seats) within
 happened_sound s e (Clear table sel) fit h within =
@@ -248,9 +251,12 @@ sound_after s e h =
       | true ↦ λ counts. happened_sound s e e.what
           (and_parts (fits s.config e.what)
           (is_next e.what e.seat e.seq (nat_lt (length s.seats) MOST_SEATS) s.next_seat
-          (number_of s e.seat)) counts).0 h
-          (happened_within s e e.what (sorted_from row_key_cmp s.rows h.ordered.rows)
-          h.within_sizes)
+          (number_of s e.seat)) counts).0 h (
+            happened_within s e e.what (sorted_from row_key_cmp s.rows h.ordered.rows)
+                h.within_sizes,
+            happened_bounded s e e.what (sorted_from row_key_cmp s.rows h.ordered.rows)
+                h.within_bound,
+          )
       | false ↦ λ not. h
     ] refl
 
@@ -265,6 +271,7 @@ sound_opened config opening checked small = record {
   ordered = record { rows = tt; sessions = tt; seats = tt };
   live = tt;
   within_sizes = λ table peer. omega arith;
+  within_bound = opened_bounded config opening;
   rows = tt;
 }
 

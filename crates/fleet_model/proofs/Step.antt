@@ -145,7 +145,7 @@ by_kind : (config : Config) (opening : ℕ) (h : List Judged) (counted : List Ev
     (above_all (seats_of counted)) (number counted e.seat) ≡ true
     → longer config opening h j (counted ++ e ∷ [])
     ≡ happened (shorter config opening h counted) e w
-unfolding happened row_of clears_at with_put
+unfolding happened row_of clears_at with_put has_room
 by_kind config opening h counted e j Sit is row clears first fit next =
     let down = sits_down e.seat e.seq (above_all (seats_of counted)) _ _ next in
     let new : ever_seen e.seat counted ≡ false = new_seat counted e.seat first down.above_others in
@@ -172,8 +172,8 @@ by_kind config opening h counted e j (Put peer table key life cells) is row clea
     (and_parts _ _ fit).0).0 in
     by_parts config opening h counted e j (Put peer table key life cells) is
     (put_or_same (now_of opening counted) j h (is_number (session counted peer) e.seat
-    && has_room config.tables rows place) (place, arrival) row clears
-    ∙ ap (λ seated. cond (is_number seated e.seat && has_room config.tables rows place)
+    && has_room config rows place life) (place, arrival) row clears
+    ∙ ap (λ seated. cond (is_number seated e.seat && has_room config rows place life)
     (with_row (now_of opening counted) rows place arrival) rows)
     (sym (found-session config counted peer in_range)))
     (sessions-plain config counted e (ap is_sit is) (ap is_leave is) (λ p. ap (opens p) is))

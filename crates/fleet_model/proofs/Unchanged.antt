@@ -84,9 +84,9 @@ says_nothing s e (Open peer) lives h = absurd h
 says_nothing s e (Put peer table key life cells) lives h =
     let place : RowKey = record { table = table; key = key; peer = peer } in
     let arrival : Arrival = arrival_of s.config.tables table s.moment life cells in
-    let no : (is_number (session_of s peer) e.seat && has_room s.config.tables s.rows place)
+    let no : (is_number (session_of s peer) e.seat && has_room s.config s.rows place life)
     ≡ false =
-    and_no (is_number (session_of s peer) e.seat) (has_room s.config.tables s.rows place)
+    and_no (is_number (session_of s peer) e.seat) (has_room s.config s.rows place life)
     (⊎_elim (λ ne. inl (not_number (session_of s peer) e.seat ne)) (λ full. inr full) h) in
     alike s _ refl refl (ap (λ b. cond b (with_row s.moment s.rows place arrival) s.rows) no)
 says_nothing s e (Clear table sel) lives h = absurd h

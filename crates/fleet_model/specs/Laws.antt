@@ -1,6 +1,6 @@
 -- What holds of each state that a list of events leaves.
 use Rattle.std.specs.Prelude.{◌≡◌, ◌≢◌, ◌⊎◌, ℕ, ◌≤◌, ◌==◌, ◌&&◌, Bool, true, false, List, Some, map}
-use Rattle.std.specs.Prelude.{count_by, Option, None, is_none, not, ◌∷◌, ◌++◌}
+use Rattle.std.specs.Prelude.{count_by, length, Option, None, IfSome, is_none, not, ◌∷◌, ◌++◌}
 use Rattle.std.specs.BTreeMap.{is_at}
 use Rattle.std.specs.Cmp.Lexicographic.{slice_cmp}
 use Rattle.std.specs.List.{All, AllByRecursion, list_all, list_any}
@@ -50,6 +50,10 @@ abbrev pub IsWithinSizes : State → Type 0
 IsWithinSizes state =
     (table peer : ℕ) → held_rows state.rows table peer ≤ size_of state.config.tables table
 
+-- all peers together hold at most as many rows as the configuration's bound, if it has one
+abbrev pub IsWithinBound : State → Type 0
+IsWithinBound state = IfSome state.config.rows (λ most. length state.rows ≤ most)
+
 -- two states that answer alike: configuration, moment, rows, and so every summed row, set and
 -- ranked list
 pub record AnswersAlike (state later : State) : Type 0 where
@@ -68,7 +72,7 @@ SaysNothing state seat Sit = ⊥
 SaysNothing state seat (Open peer) = ⊥
 SaysNothing state seat (Put peer table key life cells) =
     let place : RowKey = record { table = table; key = key; peer = peer } in
-    (session_of state peer ≢ Some seat) ⊎ (has_room state.config.tables state.rows place ≡ false)
+    (session_of state peer ≢ Some seat) ⊎ (has_room state.config state.rows place life ≡ false)
 SaysNothing state seat (Clear table sel) = ⊥
 SaysNothing state seat (AddFilter filter) = is_new state.config.filters filter ≡ false
 SaysNothing state seat (DropFilter name) =

@@ -49,7 +49,7 @@ with_row t rows place row = if is_live t row
 unfoldable pub with_put : State → ℕ → RowKey → Arrival → List (RowKey × Arrival)
 with_put state seat place row =
     if is_number (session_of state place.peer) seat
-    && has_room state.config.tables state.rows place
+    && has_room state.config state.rows place row.life
     then with_row state.moment state.rows place row else state.rows
 
 -- the seats with one more event of one of them

@@ -1,7 +1,7 @@
 -- Which rows are in force: each event is judged once by the list before it, then the rows are
 -- chosen from the whole list.
 use Rattle.std.specs.Prelude.{ℕ, Bool, true, false, ◌&&◌, ◌||◌, not, ◌==◌, nat_lt, List, [], ◌∷◌}
-use Rattle.std.specs.Prelude.{Option, None, Some, map, filter, fold, count_by, slice_get}
+use Rattle.std.specs.Prelude.{Option, None, Some, length, map, filter, fold, count_by, slice_get}
 use Rattle.std.specs.Bool.{then_some}
 use Rattle.std.specs.BTreeMap.{insert_entry}
 use Rattle.std.specs.List.{list_all, list_any, cons_option}
@@ -44,12 +44,18 @@ size_of tables table = option_map_or (λ shape. shape.size) (slice_get tables ta
 abbrev pub held_rows : Rows → ℕ → ℕ → ℕ
 held_rows rows table peer = count_by (λ row. (row.0.table == table) && (row.0.peer == peer)) rows
 
--- a peer may put a row where it holds one, or while it holds fewer of the table than the table's
--- size
-unfoldable pub has_room : List Shape → Rows → RowKey → Bool
-has_room tables rows place =
+-- all peers together may hold a row more: fewer are in force than their bound, if there is one
+abbrev pub takes_more : Option ℕ → Rows → Bool
+takes_more None rows = true
+takes_more (Some most) rows = nat_lt (length rows) most
+
+-- a peer may put a row where it holds one. A new one needs room: the peer holds fewer of the table
+-- than the table's size and, unless the row's life is over at once, all peers may hold a row more
+unfoldable pub has_room : Config → Rows → RowKey → Option ℕ → Bool
+has_room config rows place life =
     list_any (λ row. same_place place row.0) rows
-    || nat_lt (held_rows rows place.table place.peer) (size_of tables place.table)
+    || (nat_lt (held_rows rows place.table place.peer) (size_of config.tables place.table)
+    && (is_number life 0 || takes_more config.rows rows))
 
 -- the row of a Put that arrives at t
 abbrev pub arrival_of : List Shape → ℕ → ℕ → Option ℕ → List Cell → Arrival
@@ -62,7 +68,7 @@ row_of config seated rows t e Sit = None
 row_of config seated rows t e (Open peer) = None
 row_of config seated rows t e (Put peer table key life cells) =
     let place : RowKey = record { table = table; key = key; peer = peer } in
-    then_some (is_number seated e.seat && has_room config.tables rows place)
+    then_some (is_number seated e.seat && has_room config rows place life)
     (place, arrival_of config.tables table t life cells)
 row_of config seated rows t e (Clear table sel) = None
 row_of config seated rows t e (AddFilter filter) = None

@@ -9,7 +9,7 @@ use Rattle.agg_types.specs.declared.event.What.TheVariants.{Put}
 use Rattle.agg_types.specs.declared.limits.TheConstants.{LAST_MOMENT}
 use Rattle.agg_types.specs.declared.row_key.RowKey.{RowKey}
 use Rattle.fleet_model.specs.Normalized.{normalized_cells}
-use Rattle.fleet_model.specs.Laws.{AreLive, IsOrdered, IsWithinSizes}
+use Rattle.fleet_model.specs.Laws.{AreLive, IsOrdered, IsWithinBound, IsWithinSizes}
 use Rattle.fleet_model.specs.State.{State}
 use Rattle.fleet_model.specs.Values.{cols_of}
 use Rattle.fleet_model.specs.declared.arrival.Arrival.{Arrival}
@@ -27,11 +27,13 @@ pub record IsSoundRow (config : Config) (moment : ℕ) (row : RowKey × Arrival)
   pub arrived : row.1.arrived ≤ moment
 
 -- the configuration, with the filters that stand, has no fault; moments are up to the last; rows,
--- sessions and seats are in order; rows live, are no more than the sizes, and fit
+-- sessions and seats are in order; rows live, are no more than the sizes
+-- and the bound on all of them, and fit
 pub record IsSound (state : State) : Type 0 where
   pub checked : config_faults state.config ≡ []
   pub in_range : state.moment ≤ LAST_MOMENT
   pub ordered : IsOrdered state
   pub live : AreLive state
   pub within_sizes : IsWithinSizes state
+  pub within_bound : IsWithinBound state
   pub rows : AllByRecursion (IsSoundRow state.config state.moment) state.rows

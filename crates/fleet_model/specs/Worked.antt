@@ -26,7 +26,7 @@ use Rattle.fleet_model.specs.declared.summed.Summed.{Summed}
 -- a table of IPv4 keys with this size and column
 abbrev pub table_of : (size : ℕ) → Col → (period : ℕ) → Shape
 table_of size col period =
-    record { name = codes "t"; kind = Ip; size = size; cols = (col, period) ∷ [] }
+    record { name = codes "t"; kind = Ip; size = size; keep = None; cols = (col, period) ∷ [] }
 
 -- two peers, and one table of IPv4 keys with this size and column
 unfoldable pub fleet_of : (size : ℕ) → Col → (period : ℕ) → List Filter → Config
@@ -38,6 +38,7 @@ fleet_of size col period filters =
       filters = filters;
       ranks = [];
       pushes = [];
+      rows = None;
     }
 
 -- the key 10.0.0.n
@@ -87,6 +88,17 @@ full_table =
     (0, Sit) ∷ joined 1 0
     ++ (1, row 0 1 (Some 100) (Count 1)) ∷ (1, row 0 2 (Some 60000) (Count 2)) ∷
     (1, row 0 3 (Some 60000) (Count 3)) ∷ []
+
+-- a fleet whose peers may hold so many rows together
+unfoldable pub bounded : ℕ → Config → Config
+bounded most config = record config { rows = Some most }
+
+-- three rows of two peers, of which one lives 100 ms
+unfoldable pub three_rows : List (ℕ × What)
+three_rows =
+    (0, Sit) ∷ joined 1 0 ++ joined 2 1
+    ++ (1, row 0 1 (Some 100) (Count 1)) ∷ (1, row 0 2 None (Count 2)) ∷
+    (2, row 1 2 None (Count 3)) ∷ []
 
 -- the first session is lost, the second is taken over by the third, and still says something
 unfoldable pub reconnected : List (ℕ × What)

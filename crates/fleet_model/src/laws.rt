@@ -28,7 +28,7 @@ ghost use Rattle.fleet_model.specs.History.{judged};
 ghost use Rattle.fleet_model.specs.Normalized.{GivesElapsedBack, normalized_cells};
 ghost use Rattle.fleet_model.specs.Laws.{AnswersAlike, AreLive, IsInForce, IsKeyList, IsOrdered};
 ghost use Rattle.fleet_model.specs.Laws.{IsRanking, IsRankingStart, IsSetAt, IsSummedRow};
-ghost use Rattle.fleet_model.specs.Laws.{IsWithinSizes, SaysNothing, opens_at, worth_at};
+ghost use Rattle.fleet_model.specs.Laws.{IsWithinBound, IsWithinSizes, SaysNothing, opens_at, worth_at};
 ghost use Rattle.fleet_model.specs.Machine.{after, counts_now, number_of, opened, session_of};
 ghost use Rattle.fleet_model.specs.Next.{IsNextChange, IsNextChangeBy, longest_period};
 ghost use Rattle.fleet_model.specs.Next.{table_flat_from};
@@ -159,14 +159,17 @@ pub fn rows_in_force_live()
         → AreLive (state_of config opening events) }
 {}
 
-/// A peer never holds more rows of a table than the table's size.
+/// A peer never holds more rows of a table than the table's size, nor do all peers together hold
+/// more than the configuration's bound, if it has one.
 pub fn sizes_hold()
-    ensures { (config : Config) (opening : ℕ) (events : List Event)
+    ensures sizes { (config : Config) (opening : ℕ) (events : List Event)
         → IsWithinSizes (state_of config opening events) }
+    ensures bound { (config : Config) (opening : ℕ) (events : List Event)
+        → IsWithinBound (state_of config opening events) }
 {}
 
 /// Some events change no summed row, set or ranked list: a moment that isn't later, a row of a seat
-/// that isn't its peer's session in force, and a row past the table's size. Nor does a filter that
+/// that isn't its peer's session in force, and a row that has no room. Nor does a filter that
 /// isn't taken, or one to be dropped that no event added.
 pub fn some_events_say_nothing()
     ensures { (state : State) (e : Event)

@@ -12,7 +12,7 @@ ghost use Rattle.fleet_model.specs.Answers.{filter_of, set_at};
 ghost use Rattle.fleet_model.specs.Machine.{session_of};
 ghost use Rattle.fleet_model.specs.Ranking.{ranked, ranking};
 ghost use Rattle.fleet_model.specs.Worked.{fleet_of, ip, filter_on, row, left_by, view_of_table};
-ghost use Rattle.fleet_model.specs.Worked.{sums_to};
+ghost use Rattle.fleet_model.specs.Worked.{bounded, sums_to, three_rows};
 ghost use Rattle.fleet_model.specs.Worked.{joined, full_table, reconnected, lives_over};
 ghost use Rattle.fleet_model.specs.Worked.{cleared_on_sums, summed_rates, one_rate, slow_rate};
 ghost use Rattle.fleet_model.specs.Worked.{added_late, equal_keys, falling_keys, first_two};
@@ -29,6 +29,23 @@ pub fn size_limit()
         (left_by (fleet_of 2 Gpc0 0 [])
         (full_table ++ (0, Moment 100) ∷ (1, row 0 3 (Some 60000) (Count 3)) ∷ []))
         ≡ (ip 2, sums_to Gpc0 1 (Some 59900) 2) ∷ (ip 3, sums_to Gpc0 1 (Some 60000) 3) ∷ [] }
+{}
+
+/// All peers together may hold three rows. A key of which another peer alone holds a row isn't
+/// taken, one that its own peer holds is; and a new one is once the row that lives 100 ms has ended.
+pub fn row_bound()
+    ensures full { view_of_table
+        (left_by (bounded 3 (fleet_of 100 Gpc0 0 []))
+        (three_rows ++ (2, row 1 1 None (Count 9)) ∷ []))
+        ≡ (ip 1, sums_to Gpc0 1 (Some 100) 1) ∷ (ip 2, sums_to Gpc0 2 None 5) ∷ [] }
+    ensures held { view_of_table
+        (left_by (bounded 3 (fleet_of 100 Gpc0 0 []))
+        (three_rows ++ (2, row 1 2 None (Count 9)) ∷ []))
+        ≡ (ip 1, sums_to Gpc0 1 (Some 100) 1) ∷ (ip 2, sums_to Gpc0 2 None 11) ∷ [] }
+    ensures taken { view_of_table
+        (left_by (bounded 3 (fleet_of 100 Gpc0 0 []))
+        (three_rows ++ (0, Moment 100) ∷ (2, row 1 3 None (Count 9)) ∷ []))
+        ≡ (ip 2, sums_to Gpc0 2 None 5) ∷ (ip 3, sums_to Gpc0 1 None 9) ∷ [] }
 {}
 
 /// A peer that connects again is heard over its newer session: what the older one still says isn't

@@ -117,6 +117,7 @@ config_of state = record {
   filters = [];
   ranks = [];
   pushes = [];
+  rows = None;
 }
 
 -- a tab and a CR separate words as a space does

@@ -1,5 +1,6 @@
 -- Whether two configurations are the same, as a test.
-use Rattle.std.specs.Prelude.{ℕ, Bool, false, ◌&&◌, ◌==◌, List, [], ◌∷◌, length, unwrap_or}
+use Rattle.std.specs.Prelude.{ℕ, Bool, true, false, ◌&&◌, ◌==◌, List, [], ◌∷◌, length}
+use Rattle.std.specs.Prelude.{unwrap_or, is_none, Option, None, Some}
 use Rattle.std.specs.Str.{bytes_eq}
 use Rattle.agg_types.specs.Col.{place}
 use Rattle.agg_types.specs.Kind.{given_length, kind_number}
@@ -26,9 +27,16 @@ same_kind one other = (kind_number one == kind_number other) && (kind_len one ==
 abbrev pub same_head : Shape → Shape → Bool
 same_head one other = bytes_eq one.name other.name && same_kind one.kind other.kind
 
+-- whether both are the same number, or none
+abbrev pub same_keep : Option ℕ → Option ℕ → Bool
+same_keep None None = true
+same_keep None (Some other) = false
+same_keep (Some one) None = false
+same_keep (Some one) (Some other) = one == other
+
 abbrev pub same_table : Shape → Shape → Bool
-same_table one other =
-    same_head one other && (one.size == other.size) && same_cols one.cols other.cols
+same_table one other = same_head one other && (one.size == other.size)
+    && same_keep one.keep other.keep && same_cols one.cols other.cols
 
 abbrev pub same_tables : List Shape → List Shape → Bool
 same_tables [] others = length others == 0
@@ -40,10 +48,10 @@ same_names [] others = length others == 0
 same_names (one ∷ some) [] = false
 same_names (one ∷ some) (other ∷ others) = bytes_eq one other && same_names some others
 
--- no filters and no ranked lists, and nothing pushed
+-- no filters and no ranked lists, nothing pushed, and no bound on all rows
 abbrev pub is_plain : Config → Bool
 is_plain config = (length config.filters == 0) && (length config.ranks == 0)
-    && (length config.pushes == 0)
+    && (length config.pushes == 0) && is_none config.rows
 
 abbrev pub same_peers : Config → Config → Bool
 same_peers one other = bytes_eq one.me other.me && same_names one.peers other.peers

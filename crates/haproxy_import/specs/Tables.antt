@@ -1,7 +1,8 @@
 -- The tables of lines, by their words.
-use Rattle.std.specs.Prelude.{ℕ, ◌-◌, Bool, true, false, ◌&&◌, ◌||◌, if◌then◌else◌, ◌==◌, nat_le}
-use Rattle.std.specs.Prelude.{List, [], ◌∷◌, length, take, drop, slice_index, slice_index_or, codes}
-use Rattle.std.specs.Prelude.{option_map, Option, None, Some}
+use Rattle.std.specs.Prelude.{ℕ, ◌+◌, ◌-◌, ◌*◌, max, Bool, true, false, ◌&&◌, ◌||◌, not}
+use Rattle.std.specs.Prelude.{if◌then◌else◌, ◌==◌, nat_le, nat_lt, List, [], ◌∷◌, length, fold}
+use Rattle.std.specs.Prelude.{take, drop, slice_index, slice_index_or, codes, option_map, unwrap_or}
+use Rattle.std.specs.Prelude.{Option, None, Some}
 use Rattle.std.specs.Char.{is_ascii_alphanumeric}
 use Rattle.std.specs.List.{flat_map, list_all}
 use Rattle.std.specs.Option.{option_and_then, option_or}
@@ -17,6 +18,7 @@ use Rattle.agg_types.specs.declared.config.KeyKind.TheVariants.{Ip}
 use Rattle.agg_types.specs.declared.config.Shape.{Shape}
 use Rattle.agg_types.specs.declared.kind.KeyLength.{KeyLength}
 use Rattle.agg_types.specs.declared.kind.KeyLength.TheVariants.{Exactly, AtMost}
+use Rattle.agg_types.specs.declared.limits.TheConstants.{PERIOD_END}
 use Rattle.line_words.specs.Numbers.{number_of}
 use Rattle.line_words.specs.Words.{parts}
 use Rattle.haproxy_import.specs.Values.{behind_word, ms_of, room_of}
@@ -95,14 +97,45 @@ abbrev pub kind_of : List (List ℕ) → Option KeyKind
 kind_of words =
     option_and_then (λ kind. with_len kind words) (type_of (behind_word (codes "type") words))
 
+-- the longest period
+abbrev pub longest : List (Col × ℕ) → ℕ
+longest cols = fold (λ most col. max most col.1) 0 cols
+
+-- whether a stored column is a rate
+abbrev pub stores_rate : Col × ℕ → Bool
+stores_rate col = is_rate col.0
+
+-- whether columns are rates alone, one at least
+abbrev pub are_rates : List (Col × ℕ) → Bool
+are_rates cols = not (length cols == 0) && list_all stores_rate cols
+
+-- a life that is shorter than this one, or any that may be where there is none
+abbrev pub shorter : ℕ → Option ℕ → Option ℕ
+shorter ms life = if nat_lt ms (unwrap_or life PERIOD_END) then Some ms else None
+
+-- behind two periods a rate is 0: so long rows of rates alone are kept, where their own life
+-- isn't shorter
+abbrev pub keep_of : List (Col × ℕ) → Option ℕ → Option ℕ
+keep_of cols life = if are_rates cols then shorter (2 * longest cols + 1) life else None
+
+-- the life that a proxy gives the rows of a table
+abbrev pub life_of : List (List ℕ) → Option ℕ
+life_of words = ms_of (behind_word (codes "expire") words)
+
 -- a table of these parts
-abbrev pub shape : List ℕ → List (Col × ℕ) → KeyKind → ℕ → Shape
-shape name cols kind size = record { name = name; kind = kind; size = size; cols = cols }
+abbrev pub shape : List ℕ → Option ℕ → List (Col × ℕ) → KeyKind → ℕ → Shape
+shape name life cols kind size = record {
+  name = name;
+  kind = kind;
+  size = size;
+  keep = keep_of cols life;
+  cols = cols;
+}
 
 -- the table of this name that the words describe
 abbrev pub shape_of : List ℕ → List (List ℕ) → Option Shape
 shape_of name words =
-    option_and_then (λ kind. option_map (shape name (cols_of words) kind)
+    option_and_then (λ kind. option_map (shape name (life_of words) (cols_of words) kind)
     (room_of (behind_word (codes "size") words))) (kind_of words)
 
 -- a byte that a name in haproxy.cfg may have

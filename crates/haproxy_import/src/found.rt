@@ -182,6 +182,7 @@ impl<'a> Found<'a> {
             filters: Declared::new(self.alloc),
             ranks: Declared::new(self.alloc),
             pushes: Declared::new(self.alloc),
+            rows: None,
         })
     }
 

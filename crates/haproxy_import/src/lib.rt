@@ -13,6 +13,7 @@
 mod columns;
 mod fleets;
 mod found;
+mod lives;
 mod notes;
 mod page;
 mod pushes;

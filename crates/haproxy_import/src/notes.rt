@@ -8,7 +8,6 @@ use crate::pushes::{suggest, tell_target};
 use crate::reasons::{tell_again, tell_full, tell_unfit, tell_unread};
 use crate::sizes::tell_room;
 use crate::tables::shape_of;
-use crate::text::put_table;
 use agg_types::{NoMemory, Shape};
 use std::alloc::Global;
 use std::mem;
@@ -83,7 +82,7 @@ impl<'a> Notes<'a> {
             None => Ok(()),
             Some(shape) => {
                 self.tables.put(&[b"#"])?;
-                put_table(&mut self.tables, &shape)
+                self.tables.table(&shape)
             }
         }
     }
@@ -129,11 +128,11 @@ impl<'a> Notes<'a> {
         let table = self.described(shape.name.as_slice(), rest);
         let is_whole = tell_columns(&mut self.tables, table)?;
         tell_blocks(&mut self.tables, table)?;
-        tell_room(&mut self.tables, table, shape, is_whole)?;
+        tell_room(&mut self.tables, table, shape)?;
         if is_whole {
             tell_target(&mut self.tables, table, shape)?;
         }
-        put_table(&mut self.tables, shape)?;
+        self.tables.table(shape)?;
         suggest(&mut self.pushes, table, shape, fleet)?;
         self.table_lines.push(self.line)?;
         Ok(())

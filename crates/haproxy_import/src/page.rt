@@ -1,6 +1,7 @@
 //! Text that is written piece by piece.
 
-use agg_types::NoMemory;
+use agg_types::{NoMemory, Shape};
+use config_text::append_table;
 use line_words::next_word;
 use std::alloc::Global;
 
@@ -49,15 +50,9 @@ impl Page {
         self.put(&[digits.as_bytes()])
     }
 
-    /// Appends a time of so many ms, as HAProxy reads it.
-    pub(crate) fn time(&mut self, ms: u64) -> Result<(), NoMemory> {
-        if ms % 1000 == 0 {
-            self.number(ms / 1000)?;
-            self.put(&[b"s"])
-        } else {
-            self.number(ms)?;
-            self.put(&[b"ms"])
-        }
+    /// Appends a table's line.
+    pub(crate) fn table(&mut self, shape: &Shape) -> Result<(), NoMemory> {
+        append_table(shape, &mut self.text)
     }
 
     /// Begins a comment on a line of the file.

@@ -1,13 +1,13 @@
 //! Whether two configurations are the same.
 
 ghost use Rattle.std.specs.Prelude.{◌≡◌, ◌&&◌, true};
-ghost use Rattle.haproxy_import.specs.Same.{is_plain, kind_len, same_cols, same_head};
+ghost use Rattle.haproxy_import.specs.Same.{is_plain, kind_len, same_cols, same_head, same_keep};
 ghost use Rattle.haproxy_import.specs.Same.{same_kind, same_names, same_parts, same_peers};
 ghost use Rattle.haproxy_import.specs.Same.{same_stored, same_table, same_tables};
 
 use agg_types::{Col, Config, KeyKind, Name, Shape};
 
-/// Whether they are, and have neither filters nor ranked lists.
+/// Whether they are, and have neither filters, ranked lists and pushes nor a bound on all rows.
 pub(crate) fn same_config(one: &Config, other: &Config) -> bool
     ensures { result ≡ true → one.now ≡ other.now }
 {
@@ -37,7 +37,10 @@ fn same_peers(one: &Config, other: &Config) -> bool
 fn is_plain(config: &Config) -> bool
     ensures { result ≡ is_plain config.now }
 {
-    config.filters.is_empty() && config.ranks.is_empty() && config.pushes.is_empty()
+    config.filters.is_empty()
+        && config.ranks.is_empty()
+        && config.pushes.is_empty()
+        && config.rows.is_none()
 }
 
 fn same_names(some: &[Name], others: &[Name]) -> bool
@@ -70,7 +73,18 @@ pub(crate) fn same_table(one: &Shape, other: &Shape) -> bool
 {
     same_head(one, other)
         && one.size == other.size
+        && same_keep(one.keep, other.keep)
         && same_cols(one.cols.as_slice(), other.cols.as_slice())
+}
+
+fn same_keep(one: Option<u64>, other: Option<u64>) -> bool
+    ensures { result ≡ same_keep one other }
+{
+    match (one, other) {
+        (None, None) => true,
+        (Some(one), Some(other)) => one == other,
+        _ => false,
+    }
 }
 
 fn same_head(one: &Shape, other: &Shape) -> bool

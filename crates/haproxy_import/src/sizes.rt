@@ -8,18 +8,16 @@ use agg_types::{Col, NoMemory, Shape};
 
 /// The rule, before the tables.
 pub(crate) const RULE: &[u8] =
-    b"# A table has twice the size that it has in a proxy. A row stays here for its whole expire,\n\
-# also where a full proxy has dropped it. So a size has to be at least a proxy's new keys a\n\
-# second times its expire in seconds. Where a table is full for a proxy, that proxy's new\n\
+    b"# A table has twice the size that it has in a proxy. A row stays here for its whole expire, at\n\
+# most for keep, also where a full proxy has dropped it. So a size has to be at least a proxy's\n\
+# new keys a second times that in seconds. Where a table is full for a proxy, that proxy's new\n\
 # keys are dropped: raise the size here, or shorten expire there.\n";
 
-/// Tells for how many new keys of a proxy a table has room, and which `expire` would be enough for
-/// one that stores only rates.
+/// Tells for how many new keys of a proxy a table has room, and why its rows go before they end.
 pub(crate) fn tell_room(
     page: &mut Page,
     table: Described<'_>,
     shape: &Shape,
-    is_whole: bool,
 ) -> Result<(), NoMemory> {
     if shape.size == LARGEST_SIZE {
         let size = value_of(table.rest, b"size");
@@ -28,6 +26,13 @@ pub(crate) fn tell_room(
         page.number(LARGEST_SIZE)?;
         page.put(&[b" rows of each proxy here\n"])?;
     }
+    match shape.keep {
+        None => tell_expire(page, table, shape.size),
+        Some(keep) => tell_keep(page, table, shape.size, keep),
+    }
+}
+
+fn tell_expire(page: &mut Page, table: Described<'_>, size: u64) -> Result<(), NoMemory> {
     let expire = value_of(table.rest, b"expire");
     if expire.is_empty() {
         let why = b"without expire there rows stay here, and a full table takes no new keys";
@@ -36,55 +41,42 @@ pub(crate) fn tell_room(
     match ms_of(expire) {
         None => page.comment(table.line, &[b"expire ", expire, b" isn't read here"]),
         Some(life) => {
-            let life = u64::from(life);
-            put_room(page, table, shape.size, life)?;
-            let enough = if is_whole { two_periods(shape) } else { None };
-            match enough {
-                Some(ms) if ms < life => put_enough(page, table, shape.size, ms),
-                _ => Ok(()),
-            }
+            put_room(page, table, size)?;
+            page.put(&[b"expire ", expire])?;
+            put_pace(page, size, u64::from(life))
         }
     }
 }
 
-fn put_room(page: &mut Page, table: Described<'_>, size: u64, life: u64) -> Result<(), NoMemory> {
+fn tell_keep(page: &mut Page, table: Described<'_>, size: u64, keep: u64) -> Result<(), NoMemory> {
+    page.begin(table.line)?;
+    page.put(&[b"keep "])?;
+    page.number(keep)?;
+    page.put(&[b": its rates are 0 after two periods, so no row has to stay for "])?;
+    let expire = value_of(table.rest, b"expire");
+    if expire.is_empty() {
+        page.put(&[b"ever\n"])?;
+    } else {
+        page.put(&[b"expire ", expire, b"\n"])?;
+    }
+    put_room(page, table, size)?;
+    page.put(&[b"keep "])?;
+    page.number(keep)?;
+    put_pace(page, size, keep)
+}
+
+fn put_room(page: &mut Page, table: Described<'_>, size: u64) -> Result<(), NoMemory> {
     page.begin(table.line)?;
     page.put(&[b"room for "])?;
     page.number(size)?;
-    let expire = value_of(table.rest, b"expire");
-    page.put(&[b" new keys of each proxy within expire ", expire, b", "])?;
-    page.number(each_second(size, life))?;
-    page.put(&[b" a second\n"])
-}
-
-fn put_enough(page: &mut Page, table: Described<'_>, size: u64, life: u64) -> Result<(), NoMemory> {
-    page.begin(table.line)?;
-    page.put(&[b"its rates are 0 after two periods: expire "])?;
-    page.time(life)?;
-    page.put(&[b" would do there, with room for "])?;
-    page.number(each_second(size, life))?;
-    page.put(&[b" a second\n"])
+    page.put(&[b" new keys of each proxy within "])
 }
 
 // How many keys of this life, in ms, may come each second.
-fn each_second(size: u64, life: u64) -> u64 {
-    size.min(LARGEST_SIZE) * 1000 / life.max(1)
-}
-
-// Two of the longest periods, in ms, of a table that stores only rates.
-fn two_periods(shape: &Shape) -> Option<u64> {
-    let mut longest = 0;
-    for (col, period) in shape.cols.as_slice() {
-        if !col.is_rate() {
-            return None;
-        }
-        longest = *period.max(&longest);
-    }
-    if longest == 0 {
-        None
-    } else {
-        Some(u64::from(longest).saturating_mul(2))
-    }
+fn put_pace(page: &mut Page, size: u64, life: u64) -> Result<(), NoMemory> {
+    page.put(&[b", "])?;
+    page.number(size.min(LARGEST_SIZE) * 1000 / life.max(1))?;
+    page.put(&[b" a second\n"])
 }
 
 /// The first rate that a table stores.

@@ -4,10 +4,11 @@ ghost use Rattle.std.specs.Prelude.{◌≡◌, ◌++◌, IfOk, OnOk};
 ghost use Rattle.std.specs.List.{list_all};
 ghost use Rattle.line_words.specs.Words.{parts, words};
 ghost use Rattle.haproxy_import.specs.Tables.{cols_by, cols_of, fits, in_list, inside, is_plain};
-ghost use Rattle.haproxy_import.specs.Tables.{item_of, kind_of, len_of, period_behind};
+ghost use Rattle.haproxy_import.specs.Tables.{item_of, kind_of, len_of, life_of, period_behind};
 ghost use Rattle.haproxy_import.specs.Tables.{plain_name, put_col, shape_of, type_of, usual_len};
 ghost use Rattle.haproxy_import.specs.Tables.{with_len};
 
+use crate::lives::keep_of;
 use crate::values::{ms_of, room_of, value_of, word_of};
 use agg_types::{Col, Items, KeyKind, KeyLength, Name, NoMemory, Shape, is_name};
 use line_words::{next_part, next_word, number};
@@ -24,12 +25,21 @@ pub(crate) fn shape_of(alloc: Global, name: &[u8], line: &[u8]) -> Result<Option
     let Some(size) = room_of(value_of(line, b"size")) else {
         return Ok(None);
     };
+    let cols = cols_of(alloc, line)?;
     Ok(Some(Shape {
         name: Name::copy(alloc, name)?,
         kind,
         size,
-        cols: cols_of(alloc, line)?,
+        keep: keep_of(cols.as_slice(), life_of(line)),
+        cols,
     }))
+}
+
+// The life that a proxy gives the rows of a table, in ms; none where it isn't read here.
+fn life_of(line: &[u8]) -> Option<u32>
+    ensures { result ≡ life_of (words line.now) }
+{
+    ms_of(value_of(line, b"expire"))
 }
 
 /// The kind of keys; none where the type or the length isn't read here.

@@ -4,7 +4,7 @@ use crate::fleets::{line_of, tell_sections};
 use crate::notes::Notes;
 use crate::page::Page;
 use crate::{pushes, sizes};
-use agg_types::{Col, Config, KeyKind, NoMemory, Shape};
+use agg_types::{Config, NoMemory};
 use std::alloc::Global;
 
 const HEAD: &[u8] =
@@ -72,38 +72,4 @@ fn put_tables(page: &mut Page, config: &Config, notes: &Notes<'_>) -> Result<(),
     } else {
         page.put(&[pushes::HEAD, notes.pushes()])
     }
-}
-
-/// Appends a table's line.
-pub(crate) fn put_table(page: &mut Page, table: &Shape) -> Result<(), NoMemory> {
-    page.put(&[b"table ", table.name.as_slice(), b" type "])?;
-    put_kind(page, table.kind)?;
-    page.put(&[b" size "])?;
-    page.number(table.size)?;
-    let mut between: &[u8] = b" store ";
-    for (col, period) in table.cols.as_slice() {
-        page.put(&[between])?;
-        put_column(page, *col, *period)?;
-        between = b",";
-    }
-    page.put(&[b"\n"])
-}
-
-fn put_kind(page: &mut Page, kind: KeyKind) -> Result<(), NoMemory> {
-    page.put(&[kind.name().as_bytes()])?;
-    let Some(len) = kind.given_length() else {
-        return Ok(());
-    };
-    page.put(&[b" len "])?;
-    page.number(len)
-}
-
-fn put_column(page: &mut Page, col: Col, period: u32) -> Result<(), NoMemory> {
-    page.put(&[col.name().as_bytes()])?;
-    if !col.is_rate() {
-        return Ok(());
-    }
-    page.put(&[b"("])?;
-    page.number(u64::from(period))?;
-    page.put(&[b")"])
 }

@@ -1,5 +1,5 @@
 -- The rule of the log, and what its steps tell.
-use Rattle.std.specs.Prelude.{ℕ, ◌≡◌, ◌==◌, true, List, [], ◌∷◌, ◌++◌, length, MatchBool}
+use Rattle.std.specs.Prelude.{ℕ, ◌≡◌, ◌==◌, true, List, [], ◌∷◌, ◌++◌, length, MatchBool, None}
 use Rattle.logbook.specs.Pages.{Book, Cell, Named, Step, View}
 use Rattle.agg_types.specs.declared.config.Config.{Config}
 use Rattle.agg_types.specs.declared.event.Event.{Event}
@@ -15,7 +15,7 @@ events_of (Happened events ∷ later) = events ++ events_of later
 
 abbrev pub no_config : Config
 no_config =
-    record { me = []; peers = []; tables = []; filters = []; ranks = []; pushes = [] }
+    record { me = []; peers = []; tables = []; filters = []; ranks = []; pushes = []; rows = None }
 
 abbrev pub config_of : List Entry → Config
 config_of [] = no_config

@@ -7,7 +7,8 @@ use Rattle.std.specs.Prelude.{is_none, slice_get}
 use Rattle.std.specs.List.{list_all, list_any, position_or_len}
 use Rattle.std.specs.Str.{bytes_eq}
 use Rattle.agg_types.specs.Check.{ascends, config_faults, each, fault_if, filter_faults, is_within}
-use Rattle.agg_types.specs.Check.{len_fits, peer_faults, period_fits, rank_faults, table_faults}
+use Rattle.agg_types.specs.Check.{keep_fits, len_fits, peer_faults, period_fits, rank_faults}
+use Rattle.agg_types.specs.Check.{table_faults}
 use Rattle.agg_types.specs.Col.{col_id}
 use Rattle.agg_types.specs.Name.{is_name}
 use Rattle.agg_types.specs.Naming.{place_of}
@@ -60,6 +61,7 @@ pub record TableFits (before : List Shape) (shape : Shape) : Type 0 where
   pub named : HasName (λ table. table.name) before shape
   pub ascend : ascends (map (λ col. col_id col.0) shape.cols) ≡ true
   pub periods : list_all period_fits shape.cols ≡ true
+  pub keep : keep_fits shape.keep ≡ true
   pub size : is_within shape.size LARGEST_SIZE ≡ true
   pub length : len_fits shape.kind ≡ true
 
@@ -72,6 +74,7 @@ table_fits before shape none =
     let c = both_none _ _ b.0 in
     let d = both_none _ _ c.0 in
     let twice = neither _ _ (no_fault _ _ c.1) in
+    let times = both _ _ (not_not _ (no_fault _ _ b.1)) in
     let sizes = both _ _ (not_not _ (no_fault _ _ a.1)) in
     record {
       named = record {
@@ -79,7 +82,8 @@ table_fits before shape none =
         first = twice.0;
       };
       ascend = not_not _ twice.1;
-      periods = not_not (list_all period_fits shape.cols) (no_fault _ _ b.1);
+      periods = times.0;
+      keep = times.1;
       size = sizes.0;
       length = sizes.1;
     }

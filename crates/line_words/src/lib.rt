@@ -5,9 +5,9 @@
 //!
 //! `next_line`, `next_word` and `next_part` give exactly the first line, word and part, and what is
 //! left has exactly the others. `line_at`, `word_at` and `behind_words` find them by their number.
-//! `number` and `operator` answer exactly what a word writes. `Words` reads a line word by word,
-//! for configurations, steps and commands alike. A fault (`Misread`) tells which word is wrong or
-//! missing, and what had to stand there.
+//! `number` and `operator` answer exactly what a word writes, and `operator_word` writes a
+//! comparison. `Words` reads a line word by word, for configurations, steps and commands alike. A
+//! fault (`Misread`) tells which word is wrong or missing, and what had to stand there.
 #![tactic(auto)]
 
 mod misread;
@@ -20,6 +20,6 @@ mod reader;
 pub use misread::{Expected, Misread};
 pub use numbered::{behind_words, line_at, word_at};
 pub use numbers::{NumberFault, number};
-pub use operators::operator;
+pub use operators::{operator, operator_word};
 pub use parts::{is_comment, next_line, next_part, next_word, place_of};
 pub use reader::{Comparison, DATA, Words};

@@ -1,5 +1,5 @@
 ghost use Rattle.std.specs.Prelude.{◌≡◌};
-ghost use Rattle.line_words.specs.Operators.{operator_of};
+ghost use Rattle.line_words.specs.Operators.{operator_of, operator_word};
 
 use agg_types::Op;
 
@@ -16,5 +16,19 @@ pub fn operator(word: &[u8]) -> Option<Op>
         b"lt" => Some(Op::Lt),
         b"gt" => Some(Op::Gt),
         _ => None,
+    }
+}
+
+/// The word for a comparison, in small letters.
+pub fn operator_word(op: Op) -> &'static [u8]
+    ensures { result.now ≡ operator_word op }
+{
+    match op {
+        Op::Eq => b"eq",
+        Op::Ne => b"ne",
+        Op::Le => b"le",
+        Op::Ge => b"ge",
+        Op::Lt => b"lt",
+        Op::Gt => b"gt",
     }
 }

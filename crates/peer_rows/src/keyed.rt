@@ -298,6 +298,13 @@ impl Keyed {
         self.index.clear(self.alloc);
     }
 
+    /// A moment up to `t` by which few keys are looked at: so many, or those of one moment.
+    pub(crate) fn few_by(&self, t: u64, most: usize) -> u64
+        ensures { result ≤ t }
+    {
+        self.index.few_by(t, most)
+    }
+
     /// Takes the rows out that have ended at a moment, and counts them down at their peers. The
     /// keys that have none left are told, if they are to be, as far as there is memory for them.
     pub(crate) fn end_rows(

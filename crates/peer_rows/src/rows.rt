@@ -208,6 +208,20 @@ impl Rows {
         gone
     }
 
+    /// A moment up to `t` by which `end_rows` looks at few keys of each table: at most so many, or
+    /// at those of a single moment. Takes no memory.
+    ///
+    /// Who ends rows in portions asks for the next one's moment. No clause counts them.
+    pub fn few_by(&self, t: u64, most: usize) -> u64
+        ensures { result ≤ t }
+    {
+        let mut by = t;
+        for table in self.tables.as_slice() {
+            by = table.few_by(by, most);
+        }
+        by
+    }
+
     // ---- with a hint at where the rows of a key lie
 
     /// Where the rows of a table and key lie, if it has any. Nothing is promised of it.

@@ -289,6 +289,13 @@ impl Table {
         count_none(&mut self.counts);
     }
 
+    /// A moment up to `t` by which few keys are looked at: so many, or those of one moment.
+    pub(crate) fn few_by(&self, t: u64, most: usize) -> u64
+        ensures { result ≤ t }
+    {
+        self.keys.few_by(t, most)
+    }
+
     /// Takes the rows out that have ended at a moment. The keys that have none left are told with
     /// the position of the table, as far as there is memory for them.
     pub(crate) fn end_rows(&mut self, t: u64, table: usize, told: bool, gone: &mut Gone)

@@ -80,6 +80,11 @@ impl Bucket {
         self.places.as_slice()
     }
 
+    /// How many places there are. Nothing is promised of it.
+    pub(crate) fn len(&self) -> usize {
+        self.places.len()
+    }
+
     /// Whether there is no place.
     pub(crate) fn is_empty(&self) -> bool
         ensures { result ≡ (length self.now == 0) }

@@ -1,5 +1,5 @@
 //! The buckets of all planned moments.
-ghost use Rattle.std.specs.Prelude.{◌≡◌, ◌≢◌, ◌<◌, ◌-◌, ℕ, []};
+ghost use Rattle.std.specs.Prelude.{◌≡◌, ◌≢◌, ◌<◌, ◌≤◌, ◌-◌, ℕ, []};
 ghost use Rattle.std.specs.Prelude.{◌∷◌, ◌++◌, Some, None, length, slice_get};
 ghost use Rattle.std.specs.Prelude.{IfOk, IfSome, IfNone, OnOk, OnErr};
 ghost use Rattle.std.specs.BTreeMap.{is_at};
@@ -51,7 +51,7 @@ impl Buckets {
     /// How many places a moment has. Nothing is promised of it.
     pub(crate) fn count(&self, at: u64) -> usize {
         match self.moments.get(&at) {
-            Some(bucket) => bucket.as_slice().len(),
+            Some(bucket) => bucket.len(),
             None => 0,
         }
     }
@@ -113,6 +113,29 @@ impl Buckets {
             Some((at, bucket)) if *at <= t => bucket.as_slice(),
             _ => &[],
         }
+    }
+
+    /// The last moment up to `t` by which at most so many places are due. Where the least moment
+    /// alone has more, it is that one. Looks at no more buckets than places may be due.
+    pub(crate) fn few_by(&self, t: u64, most: usize) -> u64
+        ensures { result ≤ t }
+    {
+        let mut before = 0usize;
+        for (at, bucket) in self.moments.iter() {
+            if *at > t {
+                return t;
+            }
+            let due = before.saturating_add(bucket.len());
+            if due > most {
+                return if before == 0 {
+                    *at
+                } else {
+                    at.saturating_sub(1)
+                };
+            }
+            before = due;
+        }
+        t
     }
 }
 

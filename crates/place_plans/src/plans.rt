@@ -117,6 +117,16 @@ impl PlacePlans {
         next_planned(&self.links, &self.buckets)
     }
 
+    /// A moment up to `t`: the last by which at most so many places are due, or the least that is
+    /// planned where that one alone has more. Nothing else is promised of it.
+    ///
+    /// Who takes what is due in portions asks for the next one's moment.
+    pub fn few_by(&self, t: u64, most: usize) -> u64
+        ensures { result ≤ t }
+    {
+        self.buckets.few_by(t, most)
+    }
+
     /// Places that `take_due` answers next, from the last of these on. Nothing is promised of them.
     ///
     /// Who looks at several places asks for these first, so that the waits for memory overlap.

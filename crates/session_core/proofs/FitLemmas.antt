@@ -3,6 +3,8 @@ use Rattle.std.proofs.Common.{inl, inr, ◌≡◌, ℕ, ◌%◌, ◌^◌, ◌<�
 use Rattle.std.proofs.Common.{if◌then◌else◌, List, [], ◌∷◌, ◌++◌, length, take, slice_get, is_some}
 use Rattle.std.proofs.Common.{Option, Some, None, Result, Ok, Err, refl, sym, ap, ◌∙◌, arith, lit<}
 use Rattle.std.specs.List.{list_all}
+use Rattle.std.specs.Option.{option_map}
+use Rattle.std.specs.Prelude.{min}
 use Rattle.std.specs.Str.{bytes_eq}
 use Rattle.std.proofs.Math.Nat.{mod-lt}
 use Rattle.std.proofs.lemmas.Bool.{false≢true, lt-ltb, le-leb, eq-eqb}
@@ -47,7 +49,7 @@ use Rattle.session_core.specs.Talk.{update_under, words_of, words_on}
 use Rattle.session_core.specs.TalkAnswers.{FactsFit, FaultAnswersTalk, AnswersTalk}
 use Rattle.session_core.specs.Tracked.{followed_of, put_of}
 use Rattle.session_core.specs.Values.{bytes_at, cell_of, cells_of, count_cell, key_at, life_of}
-use Rattle.session_core.specs.Values.{rate_cell, sents_at, text_at}
+use Rattle.session_core.specs.Values.{life_said, life_within, rate_cell, sents_at, text_at}
 use Rattle.session_core.proofs.MeaningLemmas.{bool_tells, none_some}
 use Rattle.session_core.proofs.TrackLemmas.{lt_tells}
 
@@ -127,12 +129,14 @@ key_is_fit (Binary len) bytes x is = eq-eqb (length x.0) len (bytes_fit len byte
 
 -- ---- lives
 
-life_is_fit : (expiry : ℕ) (life : Option ℕ) → life_fits (life_of expiry life) ≡ true
-life_is_fit expiry life =
-    elim (bool_tells (expiry == 0)) [
-      | inl e ↦ rw e refl
-      | inr e ↦ rw e (lt-ltb _ (2 ^ 32) (omega arith))
-    ]
+life_is_fit_by : (life : Option ℕ)
+    → life_fits (option_map (λ most. min most 4294967295) life) ≡ true
+life_is_fit_by None = refl
+life_is_fit_by (Some most) = lt-ltb _ (2 ^ 32) (omega arith)
+
+life_is_fit : (keep : Option ℕ) (expiry : ℕ) (life : Option ℕ)
+    → life_fits (life_of keep expiry life) ≡ true
+life_is_fit keep expiry life = life_is_fit_by (life_within keep (life_said expiry life))
 
 -- ---- rows
 
@@ -144,12 +148,12 @@ bind_some None f y e = elim (none_some y e) [ ]
 put_fits : (config : Config) (peer : ℕ) (followed : Followed) (life : Option ℕ) (shape : Shape)
     (key : List ℕ) (sents : List Sent) → peer < length config.peers
     → slice_get config.tables followed.table ≡ Some shape → key_fits shape.kind key ≡ true
-    → fits config (Put peer followed.table key (life_of followed.expiry life)
+    → fits config (Put peer followed.table key (life_of shape.keep followed.expiry life)
     (cells_of sents followed.periods shape.cols)) ≡ true
 put_fits config peer followed life shape key sents within at key_is =
     rw (
       lt-ltb peer (length config.peers) within,
-      life_is_fit followed.expiry life,
+      life_is_fit shape.keep followed.expiry life,
       at,
     ) (rw (key_is, cells_are_fit sents followed.periods shape.cols) refl)
 

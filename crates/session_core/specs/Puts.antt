@@ -24,7 +24,8 @@ put_of_values shape peer followed life key values = do
 unfoldable pub put_in : Shape → ℕ → Followed → Option ℕ → List ℕ → Option What
 put_in shape peer followed life bytes = do
   key ← key_at shape.kind bytes
-  put_of_values shape peer followed (life_of followed.expiry life) key.0 key.1
+  let own = life_of shape.keep followed.expiry life
+  put_of_values shape peer followed own key.0 key.1
 
 -- the entry at this place is in force, with this definition of this table and this last id
 pub record IsInForce (tables : List Shape) (t : Tracked) (at : ℕ) (entry : Entry)

@@ -70,7 +70,7 @@ put_of tables peer followed life bytes = do
   key ← key_at shape.kind bytes
   sents ← sents_at followed.bits key.1
   let cells = cells_of sents followed.periods shape.cols
-  Some (Put peer followed.table key.0 (life_of followed.expiry life) cells)
+  Some (Put peer followed.table key.0 (life_of shape.keep followed.expiry life) cells)
 
 -- an update's id: the explicit one, or the one after the last
 abbrev pub id_after : ℕ → Option ℕ → ℕ

@@ -4,6 +4,7 @@ use Rattle.std.specs.Prelude.{◌==◌, ◌&&◌, if◌then◌else◌, List, [],
 use Rattle.std.specs.Prelude.{map, min, slice_get, slice_set, unwrap_or, replicate, Option, Some}
 use Rattle.std.specs.Prelude.{None}
 use Rattle.std.specs.List.{list_any}
+use Rattle.std.specs.Option.{option_map}
 use Rattle.peers_msg.specs.Payload.{◌>>=◌, number_at, string_at}
 use Rattle.agg_types.specs.Col.{all_cols, col_id, is_rate, is_wide}
 use Rattle.agg_types.specs.Kind.{kind_length}
@@ -118,7 +119,18 @@ cell_of sents periods col =
 abbrev pub cells_of : List Sent → List ℕ → List (Col × ℕ) → List Cell
 cells_of sents periods cols = map (cell_of sents periods) cols
 
--- the life of a row: none under a definition without an end, else what the message says, else the
--- definition's; none is above 4,294,967,295
-abbrev pub life_of : ℕ → Option ℕ → Option ℕ
-life_of expiry life = if expiry == 0 then None else Some (min (unwrap_or life expiry) 4294967295)
+-- what a message and its definition say of a row's life: none under a definition without an end,
+-- else what the message says, else the definition's
+abbrev pub life_said : ℕ → Option ℕ → Option ℕ
+life_said expiry life = if expiry == 0 then None else Some (unwrap_or life expiry)
+
+-- a life that is at most the longest one of a table, if it has one; a row without a life gets that
+abbrev pub life_within : Option ℕ → Option ℕ → Option ℕ
+life_within None life = life
+life_within (Some keep) None = Some keep
+life_within (Some keep) (Some life) = Some (min life keep)
+
+-- the life of a row: what is said, within the table's longest; none is above 4,294,967,295
+abbrev pub life_of : Option ℕ → ℕ → Option ℕ → Option ℕ
+life_of keep expiry life =
+    option_map (λ most. min most 4294967295) (life_within keep (life_said expiry life))

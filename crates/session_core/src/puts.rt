@@ -84,7 +84,7 @@ fn put(
     let Some((key, values)) = key_of_length(length, bytes) else {
         return Ok(false);
     };
-    let life = life_of(followed.expiry, life);
+    let life = life_of(shape.keep, followed.expiry, life);
     if let Some(packed) = pack_cells(followed, shape.cols.as_slice(), plan, values) {
         let key = key_of(alloc, key)?;
         facts.push_packed(peer, followed.table, key, life, packed)?;
@@ -205,7 +205,7 @@ pub(crate) fn tell_put(
         peer,
         table: followed.table,
         key: key_of(alloc, key)?,
-        life: life_of(followed.expiry, life),
+        life: life_of(shape.keep, followed.expiry, life),
         cells: Cells::copy(alloc, cells_read(plan))?,
     };
     facts.push(what)?;

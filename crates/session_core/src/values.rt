@@ -5,7 +5,7 @@ ghost use Rattle.std.specs.Option.{option_map};
 ghost use Rattle.peers_msg.specs.Payload.{number_at, string_at};
 ghost use Rattle.session_core.specs.Values.{bytes_at, text_at, key_at, key_of_length, has_type};
 ghost use Rattle.session_core.specs.Values.{is_rate_type};
-ghost use Rattle.session_core.specs.Values.{periods_of, elapsed_of, life_of};
+ghost use Rattle.session_core.specs.Values.{periods_of, elapsed_of, life_of, life_said, life_within};
 ghost use Rattle.session_core.specs.Tracked.{id_after};
 
 use agg_types::{Col, Key, KeyKind, KeyLength, LAST_TYPE, NoMemory};
@@ -155,17 +155,37 @@ pub(crate) fn low_word(number: u64) -> u32
     (number % (1 << 32)) as u32
 }
 
-/// The life of a row, in ms.
+/// What a message and its definition say of a row's life, in ms; an expiry of 0 is no end.
 #[inline]
-pub(crate) fn life_of(expiry: u64, life: Option<u32>) -> Option<u64>
-    ensures { result ≡ life_of expiry life }
+fn life_said(expiry: u64, life: Option<u32>) -> Option<u64>
+    ensures { result ≡ life_said expiry life }
 {
     if expiry == 0 {
         return None;
     }
-    let life = match life {
-        Some(life) => u64::from(life),
-        None => expiry,
-    };
+    match life {
+        Some(life) => Some(u64::from(life)),
+        None => Some(expiry),
+    }
+}
+
+/// A life that is at most the longest one of its table, which a row without a life gets.
+#[inline]
+fn life_within(keep: Option<u64>, life: Option<u64>) -> Option<u64>
+    ensures { result ≡ life_within keep life }
+{
+    match (keep, life) {
+        (None, life) => life,
+        (Some(keep), None) => Some(keep),
+        (Some(keep), Some(life)) => Some(life.min(keep)),
+    }
+}
+
+/// The life of a row of a table with this longest life, in ms.
+#[inline]
+pub(crate) fn life_of(keep: Option<u64>, expiry: u64, life: Option<u32>) -> Option<u64>
+    ensures { result ≡ life_of keep expiry life }
+{
+    let life = life_within(keep, life_said(expiry, life))?;
     Some(life.min(LONGEST_LIFE))
 }

@@ -30,7 +30,7 @@ use Rattle.show_clear.specs.declared.command.Question.TheVariants.{Tables, Table
 use Rattle.show_clear.specs.declared.command.Question.TheVariants.{Ranking, NextChange}
 
 abbrev pub no_shape : Shape
-no_shape = record { name = []; kind = Integer; size = 0; cols = [] }
+no_shape = record { name = []; kind = Integer; size = 0; keep = None; cols = [] }
 
 -- the table at a position
 abbrev pub shape_of : State → ℕ → Shape

@@ -1,6 +1,6 @@
 //! Planned changes of the verdicts in places.
 
-ghost use Rattle.std.specs.Prelude.{◌≡◌, ℕ, [], None, true, false, IfNone, IfSome};
+ghost use Rattle.std.specs.Prelude.{◌≡◌, ◌≤◌, ℕ, [], None, true, false, IfNone, IfSome};
 ghost use Rattle.place_plans.specs.Plans.{plan_at};
 ghost use Rattle.standing_filters.specs.Plans.{IsFirstOf, IsPlanned};
 ghost use Rattle.standing_filters.specs.Turns.{has_come};
@@ -91,6 +91,13 @@ impl ChangePlans {
         ensures { IsFirstOf (plan_at self.now.moments) result }
     {
         self.plans.next_at()
+    }
+
+    /// A moment up to `t` by which few places are due: so many, or those of one moment.
+    pub(crate) fn few_by(&self, t: u64, most: usize) -> u64
+        ensures { result ≤ t }
+    {
+        self.plans.few_by(t, most)
     }
 
     // They aren't known from now on. Takes no memory.

@@ -305,6 +305,20 @@ impl Standing {
         self.watches[filter].planned()
     }
 
+    /// A moment up to `t` by which `moment` judges few keys for each filter: at most so many, or
+    /// those of a single moment. Takes no memory.
+    ///
+    /// Who goes on in portions asks for the next one's moment. No clause counts them.
+    pub fn few_by(&self, t: u64, most: usize) -> u64
+        ensures { result ≤ t }
+    {
+        let mut by = t;
+        for watch in self.watches.as_slice() {
+            by = watch.few_by(by, most);
+        }
+        by
+    }
+
     /// How many filters there are.
     pub fn len(&self) -> usize
         ensures { result ≡ length self.now.filters }

@@ -111,6 +111,13 @@ impl Watch {
         self.plans.next_at()
     }
 
+    /// A moment up to `t` by which few verdicts change: so many, or those of one moment.
+    pub(crate) fn few_by(&self, t: u64, most: usize) -> u64
+        ensures { result ≤ t }
+    {
+        self.plans.few_by(t, most)
+    }
+
     /// The keys whose verdicts change, in order, each with that moment.
     pub(crate) fn planned(&self) -> Planned<'_>
         ensures exact { IsPlanOf (kept_by self.now) result }

@@ -1,14 +1,14 @@
 //! Runs lists of events through two books side by side: one takes them one by one, the other what
 //! follows one another at a seat as one run, as a hub hands it over.
 //!
-//! Compares the books behind each run: rows, updates that full tables didn't take, sets and next
+//! Compares the books behind each run: rows, updates that weren't taken, sets and next
 //! changes. Prints how many events and runs there were, how many answers differ and how many were
 //! compared. Then what no contract says: how many values were read for filters, how many updates
-//! full tables didn't take, of how many runs the flips were known, and how many these were.
+//! weren't taken for want of room, of how many runs the flips were known, and how many these were.
 //!
 //! An event for which an allocation failed has to leave each answer as it was, and then happens
 //! once more. A run for which one failed goes on from where it came to. `test_books again` compares
-//! at the end of a list and where an allocation failed: `tools/refuse_growths.py` lets each of its
+//! at the end of a list and where an allocation failed: `tools/check/refused_growths.py` lets its
 //! allocations fail in turn.
 mod answers;
 mod deeds;
@@ -145,7 +145,12 @@ fn of_eighty(rt: &impl Print, alloc: Global, often: bool) -> Result<()> {
 
 /// Takes the lists of which each allocation fails in turn.
 pub fn run_again(rt: &impl Print, alloc: Global) -> Result<()> {
-    for list in [worked::RECONNECT, worked::SIZE_LIMIT, worked::DROPS] {
+    for list in [
+        worked::RECONNECT,
+        worked::SIZE_LIMIT,
+        worked::ROW_BOUND,
+        worked::DROPS,
+    ] {
         play(rt, alloc, &list, false)?;
     }
     draw(rt, alloc, true, false)?;

@@ -1,8 +1,10 @@
 //! A book over histories that are worked out by hand, each of a few rows and then some moments.
 //!
 //! What it answers at each moment is printed: how many keys have a row, how many the filter holds
-//! and when that changes next, each summed row, and the ranked list. Then ranked lists of values
-//! that are alike, fallen, steep or level, and how many keys each looked at.
+//! and when that changes next, each summed row, and the ranked list. Then what is taken and what is
+//! dropped where all rows have a bound. Then ranked lists of values that are alike, fallen, steep or
+//! level, and how many keys each looked at.
+mod bound;
 mod fleet;
 mod lists;
 mod runs;
@@ -79,5 +81,6 @@ pub fn run(rt: &impl Print, alloc: Global) -> Result<()> {
     for run in RUNS {
         play(rt, alloc, &run)?;
     }
+    bound::run(rt, alloc)?;
     lists::run(rt, alloc)
 }

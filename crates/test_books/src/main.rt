@@ -5,7 +5,7 @@
 //! that two books take, one event by event and one in runs.
 //!
 //! `test_books again` makes some of these lists alone: an event for which an allocation failed
-//! happens once more there, and `tools/refuse_growths.py` lets each fail in turn.
+//! happens once more there, and `tools/check/refused_growths.py` lets them fail in turn.
 #![tactic(auto)]
 
 mod both;

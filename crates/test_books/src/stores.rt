@@ -3,8 +3,8 @@
 //! Places: finds, inserts and removes keys, also keys whose hashes choose one window and far more
 //! than one window holds; exchanges values, and lays keys into room that was made for them. Rows:
 //! puts, replaces, takes and clears the rows of two peers and of a hundred, works rows into sums,
-//! and lays rows of packed cells where they lie. Rates, at the moments at which they change, and
-//! both kinds of due index on the same entries.
+//! lays rows of packed cells where they lie, and ends rows in portions. Rates, at the moments at
+//! which they change, and both kinds of due index on the same entries.
 //!
 //! It shows what no contract says: that these calls succeed while there is memory. Where places or
 //! rows are refused memory once, nothing may have changed, and the same call is made again.
@@ -16,6 +16,7 @@ mod laying;
 mod packing;
 mod pages;
 mod places;
+mod portions;
 mod rates;
 mod rooms;
 mod rows;
@@ -32,6 +33,7 @@ pub fn run(rt: &HostRuntime) -> Result<()> {
     rows::run(rt)?;
     packing::run(rt)?;
     pages::run(rt)?;
+    portions::run(rt, rt.alloc())?;
     sums::run(rt)?;
     rates::run(rt)?;
     due::run(rt, rt.alloc())

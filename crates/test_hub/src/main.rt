@@ -5,7 +5,7 @@
 //!
 //! Then posts, seats, lenses and leaves, each made once more where an allocation failed. So what is
 //! printed of these is the same whichever allocation fails: `test_hub again` runs them alone, and
-//! `tools/refuse_growths.py` lets each of its allocations fail in turn.
+//! `tools/check/refused_growths.py` lets its allocations fail in turn.
 #![tactic(auto)]
 
 mod again;

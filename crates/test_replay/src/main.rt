@@ -6,7 +6,8 @@
 //! ends.
 //!
 //! Last come the steps of a fleet itself, one by one and then as one run. `test_replay again` makes
-//! them one by one alone, and `tools/refuse_growths.py` lets each allocation of that fail in turn.
+//! them one by one alone, and `tools/check/refused_growths.py` lets allocations of that fail in
+//! turn.
 #![tactic(auto)]
 
 mod failing;

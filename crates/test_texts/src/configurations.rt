@@ -17,9 +17,9 @@ pub fn print<W: Write>(alloc: Global, text: &[u8], out: &mut W) -> io::Result<()
     }
 }
 
-// Reads a configuration, once more where an allocation failed: so what is printed is the same
-// whichever allocation fails.
-fn read(alloc: Global, text: &[u8]) -> Result<Config, LineFault> {
+/// Reads a configuration, once more where an allocation failed: so what is printed is the same
+/// whichever allocation fails.
+pub fn read(alloc: Global, text: &[u8]) -> Result<Config, LineFault> {
     match agg_config::read(alloc, text) {
         Err(
             LineFault {
@@ -68,7 +68,8 @@ fn print_config<W: Write>(config: &Config, out: &mut W) -> io::Result<()> {
     print_tables(config.tables.as_slice(), out)?;
     print_filters(config.filters.as_slice(), out)?;
     print_ranks(config.ranks.as_slice(), out)?;
-    print_pushes(config.pushes.as_slice(), out)
+    print_pushes(config.pushes.as_slice(), out)?;
+    print_bound(config.rows, out)
 }
 
 fn print_peers<W: Write>(peers: &[Name], out: &mut W) -> io::Result<()> {
@@ -135,10 +136,18 @@ fn print_size<W: Write>(size: u64, out: &mut W) -> io::Result<()> {
     write!(out, " size {size}")
 }
 
+fn print_keep<W: Write>(keep: Option<u64>, out: &mut W) -> io::Result<()> {
+    match keep {
+        None => Ok(()),
+        Some(keep) => write!(out, " keep {keep}"),
+    }
+}
+
 fn print_table<W: Write>(shape: &Shape, out: &mut W) -> io::Result<()> {
     print_named("table ", shape.name.as_slice(), out)?;
     print_kind(shape.kind, out)?;
     print_size(shape.size, out)?;
+    print_keep(shape.keep, out)?;
     for col in shape.cols.as_slice() {
         print_col(*col, out)?;
     }
@@ -184,5 +193,12 @@ fn print_push<W: Write>(push: &Push, out: &mut W) -> io::Result<()> {
     match push.hold {
         None => writeln!(out, " while it holds"),
         Some(hold) => writeln!(out, " hold {hold}"),
+    }
+}
+
+fn print_bound<W: Write>(rows: Option<u64>, out: &mut W) -> io::Result<()> {
+    match rows {
+        None => Ok(()),
+        Some(rows) => writeln!(out, "rows {rows}"),
     }
 }

@@ -1,6 +1,6 @@
 //! Texts in a file: rows begin with `~` and a title, which fills the line; the text follows.
 
-use crate::{configurations, imports};
+use crate::{configurations, imports, written};
 use line_words::{next_line, next_part};
 use std::alloc::Global;
 use std::io::{BufWriter, Write};
@@ -10,6 +10,7 @@ use std::{fs, io};
 #[derive(Clone, Copy)]
 pub enum Kind {
     Configuration,
+    Written,
     Haproxy,
 }
 
@@ -47,6 +48,7 @@ fn print_row<W: Write>(
     out.write_all(title)?;
     match kind {
         Kind::Configuration => configurations::print(alloc, text, out),
+        Kind::Written => written::print(alloc, text, out),
         Kind::Haproxy => imports::print(alloc, text, out),
     }
 }

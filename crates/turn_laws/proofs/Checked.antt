@@ -9,8 +9,8 @@ use Rattle.std.specs.Str.{bytes_eq}
 use Rattle.std.proofs.lemmas.Bool.{and_parts, leb-true, leb-false}
 use Rattle.std.proofs.lemmas.Slice.Eq.{bytes_eq-Decides}
 use Rattle.agg_types.specs.Check.{all_faults, config_faults, each, fault_if, filter_faults}
-use Rattle.agg_types.specs.Check.{len_fits}
-use Rattle.agg_types.specs.Check.{push_faults, table_faults}
+use Rattle.agg_types.specs.Check.{len_fits, push_faults, rows_fit, table_faults}
+use Rattle.agg_types.specs.declared.check.ConfigFault.TheVariants.{BadSize}
 use Rattle.agg_types.specs.Name.{is_name, is_printable}
 use Rattle.agg_types.specs.declared.check.ConfigFault.{ConfigFault}
 use Rattle.agg_types.specs.declared.config.Config.{Config}
@@ -184,12 +184,15 @@ pushed_length config (push ∷ pushes) = ap suc (pushed_length config pushes)
 pub pushed_tables : (config : Config) → all_faults config ≡ [] → AreTables (pushed_of config)
 unfolding pushed_of
 pushed_tables config e =
+    let parts : config_faults config
+    ++ each (push_faults config.tables config.filters) [] config.pushes ≡ [] =
+    no_left _ (fault_if (not (rows_fit config.rows)) BadSize) e in
     let followed : config_faults config ≡ [] =
     no_left (config_faults config)
-    (each (push_faults config.tables config.filters) [] config.pushes) e in
+    (each (push_faults config.tables config.filters) [] config.pushes) parts in
     let pushes : each (push_faults config.tables config.filters) [] config.pushes ≡ [] =
     no_right (config_faults config)
-    (each (push_faults config.tables config.filters) [] config.pushes) e in
+    (each (push_faults config.tables config.filters) [] config.pushes) parts in
     let few : 0 + length config.pushes ≤ 16 =
     pushes_few config.tables config.filters [] config.pushes pushes (omega arith) in
     let count : length (map (pushed_as config) config.pushes) < 2 ^ 64 =

@@ -4,9 +4,10 @@ ghost use Rattle.std.specs.Prelude.{◌<◌, length, IfOk};
 
 use agg_types::{Declared, Named, NoMemory, Select};
 use book::Book;
+use key_text::read_key;
 use show_clear::{Command, CommandFault, Question as Asked, parse};
 use std::alloc::Global;
-use web_lists::{filter_list, rank_list, row_list, table_list};
+use web_lists::{filter_list, one_key, rank_list, row_list, table_list};
 use web_target::{Part, Question};
 use web_text::{AskFault, Entries};
 
@@ -17,7 +18,7 @@ pub enum ListFault {
     NoSuch,
     /// What is asked for behind is no key of the table, or no peer.
     BadKey,
-    /// The conditions say nothing.
+    /// The conditions say nothing, or what stands for a key is none.
     BadWhere(CommandFault),
     /// An allocation failed.
     NoMemory,
@@ -62,6 +63,9 @@ pub fn list_of(
         Question::Table { name, conds, part } => {
             table_of(alloc, book, events, name.as_slice(), conds.as_slice(), part)
         }
+        Question::Key { table, key } => {
+            key_of(alloc, book, events, table.as_slice(), key.as_slice())
+        }
         Question::Filter { name, part } => filter_of(alloc, book, events, name.as_slice(), part),
         Question::Rank { name, part } => rank_of(alloc, book, events, name.as_slice(), part),
         _ => Err(ListFault::NoSuch),
@@ -98,6 +102,21 @@ fn rank_of(
 ) -> Result<Vec<u8>, ListFault> {
     let place = place_of(&book.config().ranks, name)?;
     Ok(rank_list(alloc, book, events, place, entries_of(part))?)
+}
+
+fn key_of(
+    alloc: Global,
+    book: &Book,
+    events: u64,
+    table: &[u8],
+    text: &[u8],
+) -> Result<Vec<u8>, ListFault> {
+    let tables = &book.config().tables;
+    let place = place_of(tables, table)?;
+    match read_key(alloc, tables.as_slice()[place].kind, text)? {
+        None => Err(ListFault::BadWhere(CommandFault::BadKey)),
+        Some(key) => Ok(one_key(alloc, book, events, place, &key)?),
+    }
 }
 
 fn table_of(

@@ -198,7 +198,8 @@ impl<'a, J: Naming, R: Wait, C: Clock, F: Facts> Clerk<'a, J, R, C, F> {
             return Err(Refusal::Busy);
         };
         let receipt = look.receipt();
-        let summary = summed_up(self.alloc, look.book(), receipt.len())?;
+        let looked = self.facts.now();
+        let summary = summed_up(self.alloc, look.book(), receipt.len(), looked)?;
         let Ok(summary) = Arc::new(self.alloc, summary) else {
             return Err(Refusal::List(ListFault::NoMemory));
         };

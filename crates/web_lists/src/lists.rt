@@ -3,12 +3,13 @@
 ghost use Rattle.std.specs.Prelude.{◌<◌, length};
 
 use crate::parts::{count, keys_from};
+use crate::values::put_values;
 use agg_types::{Cond, Key, KeyKind, Name, NoMemory, Shape};
-use book::{Book, Keys};
+use book::{Book, Keys, Sought};
 use fleet_model::Summed;
 use key_text::read_key;
 use std::alloc::Global;
-use web_text::{AskFault, Entries, Json, begin_list, end_list, is_behind, put_table};
+use web_text::{AskFault, Entries, Json, begin_list, end_list, put_table};
 
 // Which keys of a list are told: so many at most, of those behind one, or from the first on.
 #[derive(Drop)]
@@ -170,12 +171,7 @@ fn put_row(json: &mut Json, shape: &Shape, key: &Key, sums: &Summed) -> Result<(
     json.key("key", shape.kind, key.as_slice())?;
     json.number("peers", sums.peers as u64)?;
     json.number_if("expires_in_ms", sums.left)?;
-    json.begin_member("values")?;
-    for stored in shape.cols.as_slice() {
-        let col = stored.0;
-        json.sum(col.name(), sums.values[col.place()])?;
-    }
-    json.end_object()?;
+    put_values(json, shape, sums)?;
     json.end_object()
 }
 
@@ -207,20 +203,37 @@ pub fn table_list(
     let part = Part::of(alloc, shape.kind, entries)?;
     let mut json = Json::new(alloc);
     begin_table(&mut json, book, events, place, shape)?;
+    let more = put_rows(alloc, &mut json, book, place, conds, &part)?;
+    Ok(end_list(json, more)?)
+}
+
+// Puts a part of the rows that meet conditions, and answers whether more follow. No more of them
+// are looked for than are put, and one that follows them.
+fn put_rows(
+    alloc: Global,
+    json: &mut Json,
+    book: &Book,
+    place: usize,
+    conds: &[Cond],
+    part: &Part,
+) -> Result<bool, NoMemory>
+    requires { place < length book.now.config.tables }
+{
+    let shape = &book.config().tables.as_slice()[place];
+    let sought = Sought {
+        conds,
+        after: part.after.as_ref(),
+        most: part.limit.saturating_add(1),
+    };
     let mut left = part.limit;
-    let mut more = false;
-    for (key, sums) in book.rows_where(alloc, place, conds)? {
-        if !is_behind(part.after.as_ref(), key) {
-            continue;
-        }
+    for (key, sums) in book.first_rows(alloc, place, sought)? {
         if left == 0 {
-            more = true;
-            break;
+            return Ok(true);
         }
         left -= 1;
-        put_row(&mut json, shape, key, &sums)?;
+        put_row(json, shape, key, &sums)?;
     }
-    Ok(end_list(json, more)?)
+    Ok(false)
 }
 
 /// The row of one key of the table at a place, if there is one.

@@ -10,8 +10,13 @@ use web_text::{FilterSum, PeerRows, RankSum, Summary};
 /// How many keys of a filter, and of a ranked list, a summary keeps at most.
 const MOST_KEYS: usize = 20;
 
-/// Sums a book up that answers for so many events.
-pub fn summed_up(alloc: Global, book: &Book, events: u64) -> Result<Summary, NoMemory> {
+/// Sums a book up that answers for so many events and is looked at so many ms after the start.
+pub fn summed_up(
+    alloc: Global,
+    book: &Book,
+    events: u64,
+    looked: u64,
+) -> Result<Summary, NoMemory> {
     let tables = used_of(alloc, book)?;
     let peers = held_of_peers(alloc, book)?;
     let filters = filter_sums(alloc, book)?;
@@ -19,6 +24,7 @@ pub fn summed_up(alloc: Global, book: &Book, events: u64) -> Result<Summary, NoM
     Ok(Summary {
         events,
         moment: book.moment(),
+        looked,
         tables,
         peers,
         filters,
@@ -107,6 +113,7 @@ fn filter_sum(
     Ok(FilterSum {
         name,
         table: filter.table,
+        conds: filter.conds.duplicate(alloc)?,
         keys,
         next,
         first,

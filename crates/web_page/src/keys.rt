@@ -13,11 +13,30 @@ function escapedKey(text) {
   }).join("");
 }
 
-// Whether a filter holds a key, as far as it is known: yes, no or none.
-async function isHeld(filter, key) {
-  if (filter.first.includes(key)) return true;
-  const { keys, more } = await keysOf(filter, FIGURES);
-  return keys.includes(key) || (more ? null : false);
+function keyPath(table, key) {
+  return "/api/v1/tables/" + encodeURIComponent(table) + "/keys/" + encodeURIComponent(key);
+}
+
+// What a filter does with a key, and when the clock alone changes that.
+function verdictParts({ filter, holds, next_change }, moment) {
+  const wait = next_change === null ? "" : span(next_change - moment);
+  const link = { text: filter, to: place({ filter }) };
+  if (holds) return ["Held by filter ", link, wait ? ", for " + wait + " by the clock. " : ". "];
+  return wait ? ["Filter ", link, " takes it in " + wait + " by the clock. "] : [];
+}
+
+// The rows that the proxies have of a key.
+function peerGrid(box, table, names) {
+  return new Grid(box, "Proxies that have this key of " + table, (one) => one.peer, [
+    { label: "Proxy", kind: "name", text: (one) => one.peer,
+      to: (one) => place({ proxy: one.peer }) },
+    ...names.map((name) => ({ label: name, number: true, text: (one) => count(one.values[name]),
+      order: (one) => one.values[name] })),
+    { label: "Told", number: true, kind: "short", text: (one) => span(one.age_ms) + " ago",
+      order: (one) => one.age_ms },
+    { label: "Ends in", number: true, kind: "short", text: (one) =>
+      one.expires_in_ms === null ? "never" : span(one.expires_in_ms) },
+  ]);
 }
 
 class KeyPanel {
@@ -38,12 +57,12 @@ class KeyPanel {
     const isWhole = Date.now() - this.whole > FIGURES;
     for (const table of wanted) {
       if (opened !== this) return;
-      if (isWhole || this.found.has(table)) await this.askTable(table, told, isWhole);
+      if (isWhole || this.found.has(table)) await this.askTable(table);
     }
     if (isWhole) this.whole = Date.now();
   }
 
-  async askTable(table, told, isWhole) {
+  async askTable(table) {
     let list;
     try {
       list = await look(listPath("tables", table, { where: "key " + this.key }));
@@ -56,18 +75,7 @@ class KeyPanel {
       this.found.delete(table);
       return;
     }
-    const before = this.found.get(table);
-    const holds = before && !isWhole ? before.holds : await this.holding(told, table, row.key);
-    this.found.set(table, { table, row, holds });
-  }
-
-  async holding(told, table, key) {
-    const holds = [];
-    for (const filter of told.filters.filter((one) => one.table === table)) {
-      const is = await isHeld(filter, key);
-      if (is !== false) holds.push({ filter: filter.filter, isSure: is });
-    }
-    return holds;
+    this.found.set(table, { table, row, story: await look(keyPath(table, row.key)) });
   }
 
   show(told) {
@@ -80,23 +88,26 @@ class KeyPanel {
       (node, one) => this.showRow(node, one, told));
   }
 
-  showRow(node, { table, row, holds }, told) {
+  showRow(node, { table, row, story }, told) {
     say(node.small, " " + many(row.peers, "proxy has", "proxies have") + " a row; "
       + (row.expires_in_ms === null ? "no end" : "ends in " + span(row.expires_in_ms)));
     if (!node.facts) {
       node.facts = make("dl", node, "facts");
       node.insertBefore(node.facts, node.list);
+      const box = make("div", node, "scroll");
+      node.insertBefore(box, node.list);
+      node.grid = peerGrid(box, table, Object.keys(row.values));
     }
     const pairs = Object.entries(row.values).flatMap(([name, value]) =>
       [["dt", name, name], ["dd", name, count(value)]]);
     keep(node.facts, pairs, (one) => one[0] + one[1], (one) => document.createElement(one[0]),
       (line, one) => say(line, one[2]));
-    const parts = holds.flatMap(({ filter, isSure }, i) => [i ? ", " : "Held by filter ",
-      { text: filter, to: place({ filter }) }, isSure ? "" : " perhaps, it holds too many to say"]);
+    node.grid.show(story.peers);
+    const parts = story.filters.flatMap((one) => verdictParts(one, story.moment));
     for (const rank of told.ranks.filter((one) => one.table === table)) {
       const at = rank.first.findIndex((entry) => entry.key === row.key);
-      if (at >= 0) parts.push((parts.length ? "; " : "") + "place " + (at + 1) + " of ",
-        { text: rank.rank, to: place({ rank: rank.rank }) });
+      if (at >= 0) parts.push("Place " + (at + 1) + " of ",
+        { text: rank.rank, to: place({ rank: rank.rank }) }, ". ");
     }
     sayParts(node.more, parts.length ? parts : ["No filter holds it."]);
   }

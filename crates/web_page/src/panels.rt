@@ -241,9 +241,10 @@ class FilterPanel {
       say(this.about, NOTHING);
       return;
     }
-    say(this.about, many(found.keys, "key", "keys") + " of table " + found.table + "; "
-      + changeOf(found) + ". Those of the greatest value that is known stand first; their rows are "
-      + "asked for a few at a time.");
+    say(this.about, "Keys of table " + found.table + " whose " + conditionOf(found) + "; "
+      + pushOf(found) + ". " + many(found.keys, "key", "keys") + "; " + changeOf(found)
+      + ". Those of the greatest value that is known stand first; their rows are asked for a few "
+      + "at a time.");
     if (!this.grid && this.table) {
       this.grid = new RowGrid(this.box, this.table, [{ label: "Asked", number: true, kind: "short",
         text: (row) => row.at ? span(Date.now() - row.at) + " ago" : "" }]);

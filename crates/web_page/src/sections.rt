@@ -84,6 +84,7 @@ function card(name, kind) {
   const head = make("h3", node);
   set(make("a", head, "", name), "href", place({ [kind]: name }));
   node.small = make("small", head);
+  if (kind === "filter") node.rule = make("p", node);
   node.about = make("p", node);
   node.list = make("ol", node, "keys");
   node.more = make("p", node, "dim");
@@ -117,6 +118,21 @@ function changeOf(filter) {
   return "the clock changes it " + (ms < 1000 ? "within a second" : "in " + span(ms));
 }
 
+const WORDS = { eq: "is", ne: "isn't", le: "is at most", ge: "is at least", lt: "is below",
+  gt: "is above" };
+
+// What a filter's condition says, and whether proxies are told its keys.
+function conditionOf({ conditions }) {
+  return conditions.map(({ column, operator, value }) =>
+    column + " " + WORDS[operator] + " " + count(value)).join(" and ");
+}
+
+function pushOf({ pushed, hold_ms }) {
+  if (!pushed) return "no proxy is told its keys";
+  return "proxies are told its keys" + (hold_ms === null ? "" : ", for " + span(hold_ms)
+    + " behind their leaving");
+}
+
 function showFilter(node, filter, told) {
   const { table, first } = filter;
   const list = lists.get(filter.filter);
@@ -124,7 +140,8 @@ function showFilter(node, filter, told) {
   const worth = worthOf(told, table, all);
   const shown = worstFirst(all, worth).slice(0, KEYS);
   const isKnown = shown.some((key) => worth.of.has(key));
-  say(node.small, " of table " + table);
+  say(node.small, " of table " + table + (filter.pushed ? ", pushed" : ""));
+  say(node.rule, "Keys whose " + conditionOf(filter));
   say(node.about, many(filter.keys, "key", "keys") + (isKnown ? " by " + worth.column : "")
     + "; " + changeOf(filter));
   showBars(node.list, shown.map((key) => ({ table, key, value: worth.of.get(key) })));

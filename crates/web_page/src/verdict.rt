@@ -114,7 +114,7 @@ function otherFaults(told) {
 
 function faultsOf(told) {
   const faults = [];
-  const late = told.uptime_ms - told.moment;
+  const late = told.behind_ms;
   if (late > 5000) {
     faults.push(fault("clock", "bad", "The collector's clock stands since " + span(late)
       + ": rows don't end, and filters and lists stay as they are."));

@@ -1,7 +1,7 @@
 -- What the target of a request asks for: its path, and the words of its query.
 use Rattle.std.specs.Prelude.{◌≡◌, ◌≢◌, ℕ, ◌==◌, ◌||◌, if◌then◌else◌, nat_eq, nat_lt, List, [], ◌∷◌}
-use Rattle.std.specs.Prelude.{codes, drop, length, map, Option, None, Some, is_some, Result, Ok}
-use Rattle.std.specs.Prelude.{Err, MatchResult}
+use Rattle.std.specs.Prelude.{codes, drop, length, map, position, take, Option, None, Some, is_some}
+use Rattle.std.specs.Prelude.{Result, Ok, Err, MatchResult}
 use Rattle.std.specs.List.{starts_with}
 use Rattle.std.specs.Str.{bytes_eq}
 use Rattle.line_words.specs.Numbers.{number_of}
@@ -125,6 +125,32 @@ filter_of name words = part_of words >>= λ part. Ok (asks.Filter name part)
 unfoldable pub rank_of : List ℕ → Words → Read Question
 rank_of name words = part_of words >>= λ part. Ok (asks.Rank name part)
 
+-- the name of a table and the text of a key, where `/keys/` stands behind the name
+abbrev pub split_at : List ℕ → Option ℕ → Option (List ℕ × List ℕ)
+split_at text None = None
+split_at text (Some at) =
+    if starts_with nat_eq (drop at text) (codes "/keys/")
+    then Some (take at text, drop 6 (drop at text)) else None
+
+abbrev pub key_split : List ℕ → Option (List ℕ × List ℕ)
+key_split text = split_at text (position (λ byte. byte == 47) text)
+
+-- one key of a table, of which no word of a query tells more
+unfoldable pub key_of : List ℕ → List ℕ → Words → Read Question
+key_of table key words =
+    if is_some words.limit || is_some words.after || is_some words.conds then Err Unknown
+    else Ok (asks.Key table key)
+
+-- a table, or one key of it
+abbrev pub table_or_key : List ℕ → Option (List ℕ × List ℕ) → Words → Read Question
+table_or_key text None words = Ok (table_of (percent_decode text) words)
+table_or_key text (Some names) words =
+    key_of (percent_decode names.0) (percent_decode names.1) words
+
+-- the same, of what stands behind `tables/`
+abbrev pub in_tables : List ℕ → Read Words → Read Question
+in_tables text words = words >>= table_or_key text (key_split text)
+
 -- a list of keys
 unfoldable pub listed_of : List ℕ → Read Words → Read Question
 listed_of path words =
@@ -138,7 +164,7 @@ listed_of path words =
 unfoldable pub named_of : List ℕ → Read Words → Read Question
 named_of path words =
     if starts_with nat_eq path (codes "tables/")
-    then (words >>= λ said. Ok (table_of (percent_decode (drop 7 path)) said))
+    then in_tables (drop 7 path) words
     else listed_of path words
 
 -- behind `/api/v1/`

@@ -33,6 +33,12 @@ pub enum Question {
         conds: Items<u8>,
         part: Part,
     },
+    /// The peers that hold a key of a table, and whether each filter of the table does. The key is
+    /// the bytes that its text in the path stands for: as answers write it.
+    Key {
+        table: Items<u8>,
+        key: Items<u8>,
+    },
     /// The keys that a standing filter holds.
     Filter {
         name: Items<u8>,

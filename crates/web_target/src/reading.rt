@@ -1,14 +1,16 @@
 //! Targets, read.
 
-ghost use Rattle.std.specs.Prelude.{◌≡◌};
-ghost use Rattle.std.specs.Option.{option_copied};
+ghost use Rattle.std.specs.Prelude.{◌≡◌, ◌≤◌, length, Some};
+ghost use Rattle.std.specs.Option.{option_copied, option_map};
 ghost use Rattle.web_target.specs.Targets.{Reads, ReadsBehind, asked_of, called_of, entries_of};
-ghost use Rattle.web_target.specs.Targets.{filter_of, listed_of, named_of, part_of, peers_of};
-ghost use Rattle.web_target.specs.Targets.{question_of, rank_of, table_of};
+ghost use Rattle.web_target.specs.Targets.{filter_of, in_tables, key_of, key_split, listed_of};
+ghost use Rattle.web_target.specs.Targets.{named_of, part_of, peers_of, question_of, rank_of};
+ghost use Rattle.web_target.specs.Targets.{split_at, table_of};
 
 use crate::query::{path_bytes, words_in};
 use crate::question::{Part, Question, TargetFault, USUAL, Words};
 use agg_types::Items;
+use line_words::place_of;
 use std::alloc::Global;
 
 /// What a target asks for: its path, and its query where it has one. Of several faults the first
@@ -71,8 +73,45 @@ fn named_of(
     ensures { ReadsBehind (named_of behind.now) words result }
 {
     match behind.strip_prefix(b"tables/") {
-        Some(text) => Ok(table_of(alloc, path_bytes(alloc, text)?, words?)),
+        Some(text) => table_or_key(alloc, text, words),
         None => listed_of(alloc, behind, words),
+    }
+}
+
+// A table, or one key of it.
+fn table_or_key(
+    alloc: Global,
+    text: &[u8],
+    words: Result<Words, TargetFault>,
+) -> Result<Question, TargetFault>
+    ensures { ReadsBehind (in_tables text.now) words result }
+{
+    match key_split(text) {
+        None => Ok(table_of(alloc, path_bytes(alloc, text)?, words?)),
+        Some((table, key)) => key_of(path_bytes(alloc, table)?, path_bytes(alloc, key)?, words?),
+    }
+}
+
+// The name of a table and the text of a key, where `/keys/` stands behind the name.
+fn key_split(text: &[u8]) -> Option<(&[u8], &[u8])>
+    ensures { option_map (λ names. (names.0.now, names.1.now)) result ≡ key_split text.now }
+{
+    match place_of(text, b'/') {
+        None => None,
+        Some(at) => split_at(text, at),
+    }
+}
+
+// The same, where the first `/` stands here.
+fn split_at(text: &[u8], at: usize) -> Option<(&[u8], &[u8])>
+    requires { at ≤ length text.now }
+    ensures { option_map (λ names. (names.0.now, names.1.now)) result
+        ≡ split_at text.now (Some at) }
+{
+    let (table, rest) = text.split_at(at);
+    match rest.strip_prefix(b"/keys/") {
+        None => None,
+        Some(key) => Some((table, key)),
     }
 }
 
@@ -116,6 +155,17 @@ fn table_of(alloc: Global, name: Items<u8>, words: Words) -> Question
         Some(conds) => conds,
     };
     Question::Table { name, conds, part }
+}
+
+// One key of a table, of which no word of a query tells more.
+#[tactic(auto, unfolding(crate::specs::Targets::key_of))]
+fn key_of(table: Items<u8>, key: Items<u8>, words: Words) -> Result<Question, TargetFault>
+    ensures { result ≡ key_of table key words }
+{
+    if words.limit.is_some() || words.after.is_some() || words.conds.is_some() {
+        return Err(TargetFault::Unknown);
+    }
+    Ok(Question::Key { table, key })
 }
 
 // Which entries are asked for, where no conditions are.

@@ -23,7 +23,13 @@ pub(crate) const UPTIME: Figure = Figure {
 pub(crate) const BEHIND: Figure = Figure {
     name: b"sesamejoist_behind_seconds",
     grows: false,
-    help: b"How far the book that was looked at is behind.",
+    help: b"How far the book was behind as it was looked at.",
+};
+
+pub(crate) const LOOK_AGE: Figure = Figure {
+    name: b"sesamejoist_look_age_seconds",
+    grows: false,
+    help: b"How long ago the book was looked at.",
 };
 
 pub(crate) const PEERS_CONNECTED: Figure = Figure {

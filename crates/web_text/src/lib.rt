@@ -4,11 +4,11 @@
 //! page need of a book that was looked at, so that one look serves both for a while. A `Standing`
 //! is what stands of the collector beside the book.
 //!
-//! Promised: of a list of keys exactly the part is told that was asked for (`keys_from`). The text
-//! of a label's value is exact (`append_label`). So are a peer's state (`PeerStanding::state`),
-//! what it holds of all tables (`Summary::of_peer`) and a table's kind of keys (`put_table`). A
-//! list of peers behind none that is configured is refused (`peer_list`). What the texts say beside
-//! that, tests show. No clause says that an allocation fails only where there is no memory.
+//! Promised: whether a key stands behind another one (`is_behind`), the text of a label's value
+//! (`append_label`), a peer's state (`PeerStanding::state`), what it holds of all tables
+//! (`Summary::of_peer`) and a table's kind of keys (`put_table`) are exact. A list of peers behind
+//! none that is configured is refused (`peer_list`). What the texts say beside that, tests show. No
+//! clause says that an allocation fails only where there is no memory.
 #![tactic(auto)]
 
 mod figure;
@@ -23,7 +23,7 @@ mod summary;
 
 pub use labels::append_label;
 pub use objects::Json;
-pub use part::{is_behind, keys_from};
+pub use part::is_behind;
 pub use peers::{AskFault, Entries, begin_list, end_list, peer_list};
 pub use prometheus::figures;
 pub use shown::{overview, put_table};

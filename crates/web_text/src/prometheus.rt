@@ -142,9 +142,11 @@ fn put_collector(
     lines.head(BUILD_INFO)?;
     let version = standing.version.as_bytes();
     lines.value(BUILD_INFO, &[(b"version", version)], count(1))?;
-    let late = standing.now.saturating_sub(summary.moment);
+    let late = summary.looked.saturating_sub(summary.moment);
+    let age = standing.now.saturating_sub(summary.looked);
     lines.alone(UPTIME, Value::Time(standing.now))?;
     lines.alone(BEHIND, Value::Time(late))?;
+    lines.alone(LOOK_AGE, Value::Time(age))?;
     lines.alone(PEERS_CONNECTED, count(standing.connected as u64))?;
     lines.alone(UPDATES, count(standing.updates))?;
     lines.alone(POSTS, count(standing.posts))?;

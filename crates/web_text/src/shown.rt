@@ -6,7 +6,8 @@ ghost use Rattle.web_text.specs.Places.{kind_at};
 use crate::objects::Json;
 use crate::standing::{PeerStanding, Standing};
 use crate::summary::{FilterSum, PeerRows, RankSum, Summary};
-use agg_types::{Config, KeyKind, NoMemory, Shape};
+use agg_types::{Cond, Config, KeyKind, NoMemory, Push, Shape};
+use line_words::operator_word;
 use std::alloc::Global;
 
 /// What the page shows of a book that was looked at and of what else stands. Times are in ms.
@@ -20,6 +21,8 @@ pub fn overview(
     json.begin_object()?;
     json.number("events", summary.events)?;
     json.number("moment", summary.moment)?;
+    json.number("behind_ms", summary.looked.saturating_sub(summary.moment))?;
+    json.number("look_age_ms", standing.now.saturating_sub(summary.looked))?;
     json.text("name", config.me.as_slice())?;
     put_standing(&mut json, standing)?;
     put_peers(alloc, &mut json, config, summary, standing)?;
@@ -142,6 +145,8 @@ fn put_filter(
     json.begin_object()?;
     json.text("filter", filter.name.as_slice())?;
     let kind = put_table(json, config, filter.table)?;
+    put_conditions(json, filter.conds.as_slice())?;
+    put_push(json, config, filter.name.as_slice())?;
     json.number("keys", filter.keys as u64)?;
     let next = match filter.next {
         None => None,
@@ -154,6 +159,27 @@ fn put_filter(
     }
     json.end_list()?;
     json.end_object()
+}
+
+// What has to hold of a key, as the configuration says it.
+fn put_conditions(json: &mut Json, conds: &[Cond]) -> Result<(), NoMemory> {
+    json.begin_list("conditions")?;
+    for cond in conds {
+        json.begin_object()?;
+        json.text("column", cond.col.name().as_bytes())?;
+        json.text("operator", operator_word(cond.op))?;
+        json.number("value", cond.bound)?;
+        json.end_object()?;
+    }
+    json.end_list()
+}
+
+// Whether proxies are told the keys, and how long, in ms, they know one that has left the set.
+fn put_push(json: &mut Json, config: &Config, filter: &[u8]) -> Result<(), NoMemory> {
+    let pushes = config.pushes.as_slice();
+    let push = pushes.iter().find(|push| push.name.as_slice() == filter);
+    json.truth("pushed", push.is_some())?;
+    json.number_if("hold_ms", push.and_then(|push: &Push| push.hold))
 }
 
 fn put_rank(json: &mut Json, config: &Config, rank: &RankSum) -> Result<(), NoMemory> {

@@ -1,7 +1,7 @@
 ghost use Rattle.std.specs.Prelude.{◌≡◌};
 ghost use Rattle.web_text.specs.Standing.{no_rows, rows_of_peer, rows_together, with_rows};
 
-use agg_types::{Key, Name};
+use agg_types::{Cond, Items, Key, Name};
 
 /// A standing filter as a look found it.
 #[derive(Debug, Drop)]
@@ -10,6 +10,8 @@ pub struct FilterSum {
     pub name: Name,
     /// Its table, by its place in the configuration.
     pub table: usize,
+    /// What has to hold of a key's sums.
+    pub conds: Items<Cond>,
     /// How many keys it holds.
     pub keys: usize,
     /// When its set changes by the clock alone, in ms of the book's clock.
@@ -67,6 +69,8 @@ pub struct Summary {
     pub events: u64,
     /// The moment of the book's clock, in ms.
     pub moment: u64,
+    /// When it was looked at, in ms after the start. A look is shared, so that may be a while ago.
+    pub looked: u64,
     /// How many keys each table has.
     pub tables: Vec<u64>,
     /// What each peer holds of each table: by peer, then by table, each in the configuration's

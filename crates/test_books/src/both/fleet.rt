@@ -36,6 +36,19 @@ rank counts addresses gpc0 3
 rank rates strings http_req_rate 3
 ";
 
+/// The same, but for the bound on all rows, which is five.
+pub const BOUNDED: &[u8] = b"name agg
+peer lb1
+peer lb2
+peer lb3
+table addresses type ip size 6 store gpc0,http_req_rate(10)
+table strings type string len 64 size 100 store gpc0,http_req_rate(10)
+filter standing addresses data.gpc0 gt 40
+rank counts addresses gpc0 3
+rank rates strings http_req_rate 3
+rows 5
+";
+
 /// A fleet whose rates are of a second, with a filter on them.
 pub const OF_SECONDS: &[u8] = b"name agg
 peer lb1
@@ -102,7 +115,7 @@ impl Run {
 }
 
 /// How many runs and events there were, of how many runs the flips were known and how many these
-/// were, and what the events read and full tables didn't take.
+/// were, and what the events read and what wasn't taken for want of room.
 #[derive(Clone, Copy)]
 pub struct Counts {
     pub events: u64,
@@ -262,7 +275,7 @@ impl Pair {
         Ok((found, seen))
     }
 
-    // How many updates full tables of the first book didn't take, as it counts them itself.
+    // How many updates the first book didn't take for want of room, as it counts them itself.
     fn drops(&self) -> u64 {
         let mut dropped = 0u64;
         for table in 0..self.single.config().tables.len() {

@@ -1,7 +1,7 @@
 //! Lists of events that were worked out by hand.
 
 use crate::both::deeds::{Deed, Row};
-use crate::both::fleet::{FEW, MANY};
+use crate::both::fleet::{BOUNDED, FEW, MANY};
 
 /// The greatest life that there is, in ms.
 const LONGEST: u64 = (1 << 32) - 1;
@@ -84,6 +84,48 @@ pub const SIZE_LIMIT: Worked = Worked {
         Deed::ClearKey(0, 5),
         put!(1, 0, 8, None, 51),
         put!(1, 0, 9, None, 9),
+    ],
+};
+
+/// Five rows are all that the peers may hold together, of both tables: a further one isn't taken
+/// until one has ended, was taken away or was cleared. A row that its peer holds is replaced, and
+/// one whose life is over at once is no further one.
+pub const ROW_BOUND: Worked = Worked {
+    name: "row bound",
+    fleet: BOUNDED,
+    deeds: &[
+        Deed::Sit(0),
+        Deed::Sit(1),
+        Deed::Sit(2),
+        Deed::Open(1, 0),
+        Deed::Open(2, 1),
+        put!(1, 0, 1, Some(5), 1),
+        put!(1, 0, 2, None, 42),
+        put!(2, 1, 2, None, 3),
+        put!(2, 1, 3, None, 44),
+        Deed::Put(
+            1,
+            Row {
+                peer: 0,
+                table: 1,
+                key: 3,
+                life: None,
+                count: 4,
+            },
+        ),
+        put!(2, 1, 1, None, 50),
+        put!(1, 0, 2, None, 2),
+        put!(1, 0, 4, Some(0), 51),
+        put!(1, 0, 4, None, 51),
+        put!(2, 1, 2, Some(0), 3),
+        put!(2, 1, 1, None, 52),
+        put!(2, 1, 4, None, 53),
+        Deed::Moment(5),
+        put!(2, 1, 4, None, 54),
+        put!(1, 0, 5, None, 55),
+        Deed::ClearKey(0, 3),
+        put!(1, 0, 5, None, 56),
+        put!(1, 0, 6, None, 57),
     ],
 };
 
@@ -195,7 +237,7 @@ const CLEARS: Worked = Worked {
 };
 
 /// All of these.
-pub const ALL: [Worked; 5] = [RECONNECT, SIZE_LIMIT, LIVES, CLEARS, DROPS];
+pub const ALL: [Worked; 6] = [RECONNECT, SIZE_LIMIT, ROW_BOUND, LIVES, CLEARS, DROPS];
 
 /// Two peers' rates of 3 a second at one key, one of them half a period old. They sum up to 4 at
 /// first, to 3 from 1 ms on, and to 2 from 167 ms on.

@@ -56,6 +56,7 @@ fn config(alloc: Global, filters: Declared<Filter>) -> Result<Config, NoMemory>
         filters,
         ranks: Declared::new(alloc),
         pushes: Declared::new(alloc),
+        rows: None,
     })
 }
 

@@ -22,6 +22,7 @@ fn new_sums(alloc: Global) -> Result<Sums, NoMemory>
         name: Name::copy(alloc, b"t")?,
         kind: KeyKind::Ip,
         size: 100,
+        keep: None,
         cols: Items::copy(alloc, &[(Col::Gpc0, 0), (Col::HttpReqRate, 1000)])?,
     };
     Sums::new(alloc, &[shape])

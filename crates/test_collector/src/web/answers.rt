@@ -7,7 +7,7 @@ use std::alloc::Global;
 use std::net::{Ipv4Addr, SocketAddr, SocketAddrV4};
 use std::str;
 use test_support::{address, config};
-use web_lists::{filter_list, rank_list, row_list, summed_up, table_list};
+use web_lists::{filter_list, one_key, rank_list, row_list, summed_up, table_list};
 use web_text::{AskFault, Entries, PeerStanding, Standing, figures, overview, peer_list};
 
 /// What the peers put: two rows of one address, one of others, and a text.
@@ -125,6 +125,10 @@ fn show_lists(rt: &impl Print, alloc: Global, book: &Book) -> Result<()> {
     for number in [7, 8] {
         show_list(rt, row_list(alloc, book, 6, 0, &address(alloc, number)?))?;
     }
+    for number in [7, 8] {
+        let text = one_key(alloc, book, 6, 0, &address(alloc, number)?)?;
+        show_text(rt, text.as_slice())?;
+    }
     Ok(())
 }
 
@@ -132,7 +136,7 @@ fn show_lists(rt: &impl Print, alloc: Global, book: &Book) -> Result<()> {
 pub fn show(rt: &impl Print, alloc: Global) -> Result<()> {
     let book = book(alloc)?;
     show_lists(rt, alloc, &book)?;
-    let summary = summed_up(alloc, &book, 7)?;
+    let summary = summed_up(alloc, &book, 7, 2550)?;
     let standing = standing(alloc, 2600)?;
     let config = book.config();
     for part in [

@@ -80,6 +80,8 @@ POST /api/v1/ranks/top HTTP/1.1\r\nHost: [::1]\r\nContent-Length: 2\r\n\r\nhi\
 GET /api/v1/tables/%2Ft?where=data.gpc0+gt+1&limit=1 HTTP/1.1\r\nHost: 127.0.0.1\r\n\r\n\
 GET /api/v1/tables/%2Ft?where=data.gpc0+gt HTTP/1.1\r\nHost: 127.0.0.1\r\n\r\n\
 GET /api/v1/tables/%2Ft?where=key+0.0.0.7 HTTP/1.1\r\nHost: 127.0.0.1\r\n\r\n\
+GET /api/v1/tables/%2Ft/keys/0.0.0.7 HTTP/1.1\r\nHost: 127.0.0.1\r\n\r\n\
+GET /api/v1/tables/%2Ft/keys/seven HTTP/1.1\r\nHost: 127.0.0.1\r\n\r\n\
 GET /api/v1/filters/few?after=a%20b HTTP/1.1\r\nHost: 127.0.0.1\r\n\r\n\
 GET /api/v1/filters/none HTTP/1.1\r\nHost: 127.0.0.1\r\n\r\n\
 GET /api/v1/peers?limit=1 HTTP/1.1\r\nHost: Collector.Example:9998\r\n\r\n\

@@ -44,6 +44,7 @@ fn show_question(rt: &impl Print, question: &Question) -> Result<()> {
             show_conds(rt, conds.as_slice())?;
             show_named(rt, "table", name.as_slice(), part)
         }
+        Question::Key { table, key } => show_key(rt, table.as_slice(), key.as_slice()),
         Question::Filter { name, part } => show_named(rt, "filter", name.as_slice(), part),
         Question::Rank { name, part } => show_named(rt, "rank", name.as_slice(), part),
     }
@@ -51,6 +52,15 @@ fn show_question(rt: &impl Print, question: &Question) -> Result<()> {
 
 fn show_conds(rt: &impl Print, conds: &[u8]) -> Result<()> {
     print!(rt; "where \"{}\" ", conds.escape_ascii())?;
+    Ok(())
+}
+
+fn show_key(rt: &impl Print, table: &[u8], key: &[u8]) -> Result<()> {
+    println!(rt;
+        "key \"{}\" of \"{}\"",
+        key.escape_ascii(),
+        table.escape_ascii()
+    )?;
     Ok(())
 }
 

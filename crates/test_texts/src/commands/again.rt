@@ -1,7 +1,7 @@
 //! Calls that are made once more where an allocation failed.
 //!
-//! So what is printed is the same whichever allocation fails: `tools/refuse_growths.py` lets each
-//! fail in turn.
+//! So what is printed is the same whichever allocation fails: `tools/check/refused_growths.py` lets
+//! them fail in turn.
 
 ghost use Rattle.std.specs.Prelude.{IfOk};
 ghost use Rattle.show_clear.specs.Answer.{NamesExist};

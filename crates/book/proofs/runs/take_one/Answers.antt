@@ -4,8 +4,13 @@ use Rattle.fleet_model.specs.Sound.{IsSound}
 use Rattle.fleet_model.specs.State.{State}
 use Rattle.book.specs.Uses.{IsUseOf}
 use Rattle.book.specs.Verdicts.{AreAll, Follows}
+use Rattle.book.proofs.Counting.{placed}
 use Rattle.book.proofs.Updates.{follows_update, sound_update}
 use Rattle.book.proofs.runs.take_one.Goals as goal
+
+pub put_lent-requires-clause-placed : goal.put_lent-requires-clause-placed
+put_lent-requires-clause-placed c =
+    placed c.args.machine.now.config (as_what c.args.what) c.requires.update.fits
 
 pub follow_update-requires-clause-sound : goal.follow_update-requires-clause-sound
 follow_update-requires-clause-sound c =

@@ -7,10 +7,10 @@ use Rattle.config_text.proofs.explained.append_periods.Goals as goal
 pub returns : goal.returns
 returns c =
     let before = c.args.out.now.items in
-    let so1 = codes "a period is 1 to " ++ decimal (PERIOD_END - 1) in
+    let so1 = codes "a period and a keep are 1 to " ++ decimal (PERIOD_END - 1) in
     let so2 = so1 ++ codes " ms, a hold " ++ decimal SHORTEST_HOLD in
     let at1 : c.append_counted.new.out.items ≡ before ++ so1 =
-    c.in_ok-append_counted.ensures ∙ append_assoc before (codes "a period is 1 to ")
+    c.in_ok-append_counted.ensures ∙ append_assoc before (codes "a period and a keep are 1 to ")
     (decimal (PERIOD_END - 1)) in
     let at2 : c.append_counted-2.new.out.items ≡ before ++ so2 =
     behind before c.append_counted.new.out.items _ so1 (codes " ms, a hold ")

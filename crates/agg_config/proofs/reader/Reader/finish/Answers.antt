@@ -13,4 +13,5 @@ returns-in-Some-clause-finished c = λ lines has.
 
 pub returns-in-None-clause-sound : goal.returns-in-None-clause-sound
 returns-in-None-clause-sound c =
-    (both_none (config_faults c.args.self.config) _ (c.args.self.sound c.in-None.is)).0
+    let followed = both_none _ _ (c.args.self.sound c.in-None.is) in
+    (both_none (config_faults c.args.self.config) _ followed.0).0

@@ -1,0 +1,7 @@
+use Rattle.std.proofs.Common.{◌≡◌, drop, fold, max}
+use Rattle.haproxy_import.specs.Tables.{longest}
+use Rattle.haproxy_import.proofs.lives.longest.Given as goal
+
+abbrev pub invariant-loop-col : goal.invariant-loop-col
+invariant-loop-col l =
+    fold (λ most col. max most col.1) l.most (drop l.col-index l.cols) ≡ longest l.cols
