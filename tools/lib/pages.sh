@@ -1,4 +1,4 @@
-# What a page's commands find beside a shell's own: tools/check_pages.py reads this into the bash that runs a page.
+# What a page's commands find beside a shell's own: tools/check/pages.py reads this into the bash that runs a page.
 #
 # DIR is the page's folder, PROGRAM the collector. fleet.conf and haproxy.cfg there are the files that the page has
 # shown. COLLECTOR_PEERS, ADMIN, ADMIN_SOCKET, HTTP, LB1 and so on are the addresses that stand for the page's.

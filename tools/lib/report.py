@@ -20,6 +20,10 @@ class Report:
                 wrong = f"{type(fault).__name__}: {fault}"
             if wrong:
                 time.sleep(0.05)
+        self.tell(name, wrong)
+
+    def tell(self, name, wrong):
+        """Says that something passed, or what was wrong with it."""
         self.passed, self.failed = self.passed + (not wrong), self.failed + bool(wrong)
         print(f"passed  {name}" if not wrong else f"FAILED  {name}: {wrong}", flush=True)
 

@@ -17,6 +17,7 @@ from lib.collector import REPOSITORY, Collector, status_of
 MEGA = 1 << 20
 SCATTER = 2147483647
 ANOTHER = 64231  # a user of no other process
+PATIENCE = 180  # s in which a flood has to hit its limit, on a slow machine
 
 
 def config(names, more="", size=1_000_000):
@@ -42,7 +43,7 @@ def of_unit():
     return {**without("MALLOC_ARENA_MAX"), **dict(named)}
 
 
-def acknowledged(peer, data, last, seconds=3):
+def acknowledged(peer, data, last, seconds):
     """Whether a peer's update is acknowledged in that time."""
     peer.settimeout(0.2)
     peer.sendall(data)
@@ -58,26 +59,26 @@ def acknowledged(peer, data, last, seconds=3):
     return False
 
 
-def unserved(collector, name):
-    """What of a peer, an admin, /healthz and the clock isn't served, or nothing."""
+def unserved(collector, name, seconds=3):
+    """What of a peer, an admin, /healthz and the clock isn't served within so many seconds each, or nothing."""
     missing = []
     try:
-        peer = seated(collector.peers, name, timeout=3)
+        peer = seated(collector.peers, name, timeout=seconds)
         if not peer:
             return "a peer isn't accepted"
         with peer:
-            if not acknowledged(peer, rows(1, [0xC0000201], 1, life=300), 1):
+            if not acknowledged(peer, rows(1, [0xC0000201], 1, life=300), 1, seconds):
                 missing.append("a peer isn't acknowledged")
             time.sleep(1)
-            if "key=192.0.2.1 " in collector.ask("show table t key 192.0.2.1", timeout=3):
+            if "key=192.0.2.1 " in collector.ask("show table t key 192.0.2.1", timeout=seconds):
                 missing.append("rows don't end")
-        info = collector.info(timeout=3)
+        info = collector.info(timeout=seconds)
         behind = int(info["uptime_ms"]) - int(info["now_ms"])
         if behind > 1500:
             missing.append(f"the clock is {behind} ms behind")
     except (OSError, KeyError) as fault:
         missing.append(f"admin or peer: {fault}")
-    status = get(collector.http, "/healthz", timeout=3)[0]
+    status = get(collector.http, "/healthz", timeout=seconds)[0]
     if status != 200:
         missing.append(f"/healthz {status or 'not answered'}")
     return ", ".join(missing)
@@ -94,19 +95,23 @@ def cleared(collector, seconds, table="t"):
     return None
 
 
-def flooded(collector, flooders, room, seconds, table="t"):
+def flooded(collector, flooders, room, seconds, table="t", patience=PATIENCE):
     """Lets flooders push new keys into so many more MB of addresses, some seconds longer than the first is cut;
-    resident memory at that time, and the moment of it. The limit stays until `unlimited`."""
+    resident memory at that time, and the moment of it. The limit stays until `unlimited`. RuntimeError where it wasn't
+    hit within so many seconds as there is patience."""
     limit = status_of(collector.process.pid, "VmSize") + room * MEGA
     hard = resource.prlimit(collector.process.pid, resource.RLIMIT_AS)[1]
     resource.prlimit(collector.process.pid, resource.RLIMIT_AS, (limit, hard))
     flood = Flood(collector.peers, flooders, table)
     start = time.monotonic()
-    while not flood.cut.value and time.monotonic() - start < 60 and collector.process.poll() is None:
+    while not flood.cut.value and time.monotonic() - start < patience and collector.process.poll() is None:
         time.sleep(0.05)
     held, cut = collector.resident(), time.monotonic()
-    time.sleep(seconds)
+    was_hit = flood.cut.value > 0 or collector.process.poll() is not None
+    time.sleep(seconds if was_hit else 0)
     flood.stop()
+    if not was_hit:
+        raise RuntimeError(f"the flood didn't hit the limit of {limit >> 20} MB within {patience:.0f} s")
     return held, cut
 
 

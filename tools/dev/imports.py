@@ -1,17 +1,19 @@
 #!/usr/bin/env python3
 """Says which names the specs and proofs of a crate take from another one that doesn't have them any more.
 
-    check_imports.py
+    tools/dev/imports.py
 
 A lemma that goes or gets another name is missed by the crates above, which `rt check` in its own crate doesn't see, and
 `rt ci` only once it comes to them. This reads all of them in a second, as text: it proves nothing. It prints a line for
 each name or module that isn't there, and the status is 1 where there is one.
 """
+
+import argparse
 import pathlib
 import re
 import sys
 
-CRATES = pathlib.Path(__file__).resolve().parent.parent / "crates"
+CRATES = pathlib.Path(__file__).resolve().parents[2] / "crates"
 USE = re.compile(r"^(?:pub )?use (Rattle(?:\.[\w+]+)+)\.\{([^}]*)\}", re.M)
 LENT = re.compile(r"^pub use (Rattle(?:\.\w+)+)$", re.M)
 # The compiler writes these modules.
@@ -51,6 +53,7 @@ def faults_of(file):
 
 
 def main():
+    argparse.ArgumentParser(description=__doc__, formatter_class=argparse.RawDescriptionHelpFormatter).parse_args()
     faults = 0
     for part in ("specs", "proofs"):
         for file in sorted(CRATES.glob(f"*/{part}/**/*.antt")):

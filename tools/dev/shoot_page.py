@@ -1,13 +1,13 @@
 #!/usr/bin/env python3
 """Takes pictures of the collector's page in a headless Chromium, to be looked at.
 
-    shoot_page.py /tmp/pictures [--collector crates/aggregator/out/aggregator] [--chromium chromium]
-    shoot_page.py --docs [..]
+    tools/dev/shoot_page.py /tmp/pictures [--collector crates/aggregator/out/aggregator] [--chromium chromium]
+    tools/dev/shoot_page.py --docs [..]
 
 It starts `aggregator listen --http` with no, 3, 54 and 250 peers, some of which push rows, and takes the page wide and
 narrow, light and dark. Names with `<&">` and keys of 256 bytes are among them. A picture's name says what it shows.
 With `--docs` it takes docs/page.png and docs/page-key.png, of a fleet where things are wrong. It wants Chromium; where
-pngquant is installed the pictures get small.
+pngquant is installed the pictures get small. It ends with 0 once all are taken, and compares nothing.
 """
 
 import argparse
@@ -25,6 +25,8 @@ import sys
 import tempfile
 import threading
 import time
+
+sys.path.insert(0, str(pathlib.Path(__file__).resolve().parents[1]))
 
 from lib.collector import COLLECTOR, REPOSITORY, Collector, wait_for
 from lib.needs import ends_cleanly, wants

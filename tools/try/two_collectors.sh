@@ -2,13 +2,14 @@
 # Tries two collectors that the same two real proxies name: each has the whole answer, and one that is lost leaves
 # the other's as it was. What it tells is checked, and the exit status is 1 where something differs.
 #
-#     tools/try_two_collectors.sh [the aggregator program]
+#     tools/try/two_collectors.sh [the aggregator program]
 #
 # It wants Debian's haproxy, or another by its path (HAPROXY=/opt/haproxy/sbin/haproxy), curl, and python3 to ask the
 # collectors. It takes examples/fleet.conf and examples/haproxy.cfg, with a second collector added. Nobody else is
 # touched: all addresses are free ones of this machine. ./build makes the program.
 set -eu
-cd "$(dirname "$0")/.."
+case ${1:-} in -h | --help) sed -n '2,/^set -eu/s/^# \{0,1\}//p' "$0"; exit 0 ;; esac
+cd "$(dirname "$0")/../.."
 PATH=$PATH:/usr/sbin
 collector=${1:-crates/aggregator/out/aggregator}
 missing=
@@ -58,7 +59,7 @@ requests() { # requests through each proxy, all of one client
 failed=0
 counts() { # which collector, its port for questions, the count that it is to have
     for _ in $(seq 100); do
-        has=$(python3 tools/ask.py "127.0.0.1:$2" "show table clients key 10.0.0.66" \
+        has=$(python3 tools/try/ask.py "127.0.0.1:$2" "show table clients key 10.0.0.66" \
             | sed -n 's/.*http_req_cnt=\([0-9]*\).*/\1/p')
         [ "$has" != "$3" ] || break
         sleep 0.1
@@ -79,7 +80,7 @@ requests 60
 counts first $first_admin 120
 counts second $second_admin 120
 for port in $first_admin $second_admin; do
-    python3 tools/ask.py "127.0.0.1:$port" "show filter abusers"
+    python3 tools/try/ask.py "127.0.0.1:$port" "show filter abusers"
 done
 
 echo

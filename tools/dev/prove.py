@@ -1,12 +1,13 @@
 #!/usr/bin/env python3
 """Proves the crates by the kit's gate, and says how far it is.
 
-    prove.py all [--whole]          every crate, and runs all programs: what ./test does
-    prove.py program [--whole]      the program and the crates below it, and links it: what ./build does
+    tools/dev/prove.py all [--whole]          every crate, runs all programs, and refuses allocations: what ./test does
+    tools/dev/prove.py program [--whole]      the program and the crates below it, and links it: what ./build does
 
 It runs `rt ci`, and prints a line as each crate is done, as `[17/51] book proved, 41 min so far`; what rt says of a
 crate that isn't proved follows it. All that rt says goes to a file, which is named first, or with `--whole` to standard
-output. The last line of `all` and the status are those of `rt ci`: `N passed, M failed`.
+output. Where `rt ci` passed, `all` runs tools/check/refused_growths.py over the programs that it built. Its last line
+has what both passed, `N passed, M failed`, and its status is 0 where both are fine.
 
 `program` runs `rt ci` over a copy of the crates that the program stands on, so that what it proves is kept for the
 gate. The program then stands at crates/aggregator/out/aggregator, whose path is the last line, beside a stamp that says
@@ -24,6 +25,8 @@ import sys
 import tempfile
 import time
 
+sys.path.insert(0, str(pathlib.Path(__file__).resolve().parents[1]))
+
 from lib import stamp
 
 REPOSITORY = stamp.REPOSITORY
@@ -34,6 +37,7 @@ DONE = re.compile(r"rt: (\w+) (proved|NOT PROVED|is kept)\b(.*)")
 TESTS = re.compile(r"rt: (\w+): its tests are (proved|NOT PROVED)|rt: (\w+): trying its must-fail edits \((\d+)\)")
 # What rt says of the whole.
 TOLD = ("rt: ok", "rt: FAILED", "rt: note", "rt: warning", "rt: must-fail", "rt: the disk", "rt: waiting")
+COUNTS = re.compile(r"(\d+) passed, (\d+) failed")
 RAN = re.compile(r"rt: (\w+)(?: \(built by[^)]*\))?:? (?:ran\b|the program\b|what the program\b)(.*)")
 
 
@@ -110,7 +114,7 @@ class Progress:
 
 
 def gate(where, count, whole):
-    """Runs `rt ci` in a folder; its status, its last line and the run's minutes."""
+    """Runs `rt ci` in a folder; its status and its last line."""
     with tempfile.NamedTemporaryFile("w", prefix="sesamejoist-", suffix=".log", delete=False) as log:
         progress = Progress(count, log)
         if not whole:
@@ -152,11 +156,33 @@ def prove_all(options):
     print(expected("all", len(every)), flush=True)
     before = stamp.commit()
     status, last = gate(REPOSITORY, len(every), options.whole)
-    if status == 0 and stamp.PROGRAM.exists() and stamp.commit() == before:
-        stamp.write(stamp.PROGRAM, last)
     if not options.whole:
         print(last, flush=True)
+    if status:
+        return status
+    if stamp.PROGRAM.exists() and stamp.commit() == before:
+        stamp.write(stamp.PROGRAM, last)
+    status, refused = refuse_growths()
+    print(both(last, refused), flush=True)
     return status
+
+
+def refuse_growths():
+    """Lets allocations of the built programs fail; the status and the last line."""
+    words = [sys.executable, str(REPOSITORY / "tools/check/refused_growths.py")]
+    process, last = subprocess.Popen(words, stdout=subprocess.PIPE, text=True, stdin=subprocess.DEVNULL), ""
+    for line in process.stdout:
+        if not COUNTS.fullmatch(line.strip()):
+            print(line, end="", flush=True)
+        last = line.strip()
+    status = process.wait()
+    return status, last if COUNTS.fullmatch(last) else f"0 passed, {int(status != 0)} failed"
+
+
+def both(first, second):
+    """What two lines `N passed, M failed` come to; the second where the first isn't one."""
+    found = [COUNTS.search(line) for line in (first, second)]
+    return " passed, ".join(str(sum(int(it[place]) for it in found if it)) for place in (1, 2)) + " failed"
 
 
 def copy_of(names, to):

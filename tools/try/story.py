@@ -1,12 +1,12 @@
 #!/usr/bin/env python3
 """Tells the first story of a fleet: two real proxies, a client whom neither sees whole, and both refuse it.
 
-    tell_story.py [PROGRAM]
+    tools/try/story.py [PROGRAM]
 
-./try runs this once what it wants is there. PROGRAM is crates/aggregator/out/aggregator, or `aggregator` on the path,
-unless another is named. Where none stands, the sources run without a proof by `rt try`, which takes some minutes, and says so every ten seconds. All
-addresses are free ones of this machine, and all processes end with it. Where `rt try` can't run them, the program is
-proved and linked first. The status is 0 where both proxies refused the client and served another, and else 1.
+./try runs this once haproxy and curl are there. PROGRAM is crates/aggregator/out/aggregator, or `aggregator` on the
+path, unless another is named. Where none stands, the sources run without a proof by `rt try`, which takes some minutes,
+and says so every ten seconds. All addresses are free ones of this machine, and all processes end with it. The status is
+0 where both proxies refused the client and served another, and else 1.
 """
 
 import argparse
@@ -21,6 +21,8 @@ import sys
 import tempfile
 import threading
 import time
+
+sys.path.insert(0, str(pathlib.Path(__file__).resolve().parents[1]))
 
 from lib import stamp
 from lib.asking import ask
@@ -61,20 +63,8 @@ class Fleet:
         self.begin(words, REPOSITORY / "crates/aggregator")
         self.await_start(MOST, 10)
 
-    def build(self):
-        """Proves and links the program as any program is, and says every minute how long it has taken."""
-        start, told = time.monotonic(), 0
-        self.begin(["rt", "run", "--", "--help"], REPOSITORY / "crates/aggregator")
-        while self.process.poll() is None:
-            if time.monotonic() - start > told + 60:
-                told += 60
-                print(f"  {told // 60} min proving", flush=True)
-            time.sleep(0.1)
-        if self.process.returncode or not stamp.PROGRAM.exists():
-            raise Failed("\n".join(["the program isn't proved:", *self.said()]))
-
     def said(self):
-        """The last lines that the collector's process, or what makes it, said."""
+        """The last lines that the collector's process, or what compiles it, said."""
         return (self.folder / "log").read_text(errors="replace").strip().splitlines()[-5:]
 
     def begin(self, words, where):
@@ -104,7 +94,7 @@ class Fleet:
         return ask(("127.0.0.1", self.admin), command, timeout=30)
 
     def end_process(self):
-        """Ends the collector, or what makes it. (rt ends what it started, in sessions of their own, before it ends.)"""
+        """Ends the collector, or what compiles it. (rt ends what it started, in sessions of their own, before itself.)"""
         if not self.process:
             return
         with contextlib.suppress(OSError):
@@ -189,21 +179,6 @@ def tell(fleet):
         raise Failed(str(fault)) from fault
 
 
-def start_somehow(fleet):
-    """Starts the sources without a proof, or, where they don't run so, the program that is proved for it; whether it
-    was."""
-    try:
-        fleet.start_unproved()
-        return False
-    except Failed as fault:
-        fleet.end_process()
-        print(f"Without a proof it doesn't run here: {fault}")
-        print("So the program is proved and linked first, which takes 1 to 2 hours on 4 processors.", flush=True)
-    fleet.build()
-    fleet.start(stamp.PROGRAM)
-    return True
-
-
 def ending(program, is_built):
     """What was proved of what ran."""
     if not is_built:
@@ -233,8 +208,8 @@ def main():
     if not shutil.which(HAPROXY):
         words.error(f"{HAPROXY} isn't there")
     if not is_built and not shutil.which("rt"):
-        sys.exit("No program is built or installed, and rt, the command of the Rattle kit that README.md names, isn't on the "
-                 "path. With a program elsewhere: ./try PROGRAM")
+        sys.exit("No program is built or installed, and rt, the command of the Rattle kit that README.md names, isn't on "
+                 "the path. With a program elsewhere: ./try PROGRAM")
     signal.signal(signal.SIGTERM, lambda *_: sys.exit(143))
     # A shell that starts this in the background lets it ignore SIGINT.
     signal.signal(signal.SIGINT, signal.default_int_handler)
@@ -244,12 +219,14 @@ def main():
             if is_built:
                 fleet.start(program.resolve())
             else:
-                print("No program is built, so the sources run without a proof first.", flush=True)
-                is_built = start_somehow(fleet)
+                print("No program is built, so the sources are compiled without a proof, and run.", flush=True)
+                fleet.start_unproved()
             tell(fleet)
             print(ending(program, is_built))
         except (Failed, TimeoutError) as fault:
             print(f"It failed: {fault}", file=sys.stderr)
+            if not is_built:
+                print(f"A proved program: ./build ({HOURS}).", file=sys.stderr)
             return 1
         except KeyboardInterrupt:
             return 130

@@ -6,24 +6,28 @@ acknowledgements, partial and confirm, heartbeats) and writes each read as a `mo
 At the end it asks the proxy itself for its tables, and writes what the proxy said as comments in front of
 the same question to the collector:
 
-    record_peer.py --listen 127.0.0.1:10001 --config head.txt --seconds 5 \\
+    tools/dev/record_peer.py --listen 127.0.0.1:10001 --config head.txt --seconds 5 \\
         --stats /tmp/haproxy.sock --table clients --table users > script
 
 `head.txt` has the configuration lines of the script (`name`, `peer`, `table`). A line of a
 `--plan` file is `<ms> <command of the proxy's stats socket>`: it is sent that many ms after the hello, so
 that a run can be made again. Moments are ms since the hello came. Only the first connection is recorded.
 
-    record_peer.py --explain < script
+    tools/dev/record_peer.py --explain < script
 
-prints the messages of a script's `bytes` lines instead, one a line.
+prints the messages of a script's `bytes` lines instead, one a line. It needs no collector. The status is 1 where it
+can't listen or read a file.
 """
 
 import argparse
+import pathlib
 import re
 import select
 import socket
 import sys
 import time
+
+sys.path.insert(0, str(pathlib.Path(__file__).resolve().parents[1]))
 
 from lib.peers_protocol import ACK, DEFINE, SWITCH, TIMED, UPDATE, UPDATES, get_int, messages, put_int
 

@@ -1,8 +1,8 @@
 #!/usr/bin/env python3
 """Measures how long the collector lets a proxy wait, at rest and while it has much to do.
 
-    time_stalls.py --collector ../crates/aggregator/out/aggregator
-    time_stalls.py --collector ../crates/aggregator/out/aggregator --only looks --senders 20 --table 100000
+    tools/time/stalls.py --collector crates/aggregator/out/aggregator
+    tools/time/stalls.py --collector crates/aggregator/out/aggregator --only looks --senders 20 --table 100000
 
 A peer with a key of its own sends an update every 5 ms and waits for its acknowledgement. The mean, the 99th of 100
 and the longest of these waits are printed for each of:
@@ -16,17 +16,21 @@ and the longest of these waits are printed for each of:
             a conditional `show table`, or what `--ask` says, without a pause; and what the peers bring then, as a
             share of what they bring beside none
 
-With `--filter all` a filter on a rate stands that all keys meet, and with `few` one that few meet.
+With `--filter all` a filter on a rate stands that all keys meet, and with `few` one that few meet. It wants a built
+program, compares nothing and ends with 0.
 """
 
 import argparse
 import multiprocessing
+import pathlib
 import statistics
 import struct
 import sys
 import tempfile
 import threading
 import time
+
+sys.path.insert(0, str(pathlib.Path(__file__).resolve().parents[1]))
 
 from lib.needs import ends_cleanly, wants
 from lib.peers_protocol import TIMED_INCREMENTAL, message, put_int

@@ -1,19 +1,20 @@
 #!/usr/bin/env python3
 """Checks what the collector answers over HTTP, to sound requests and to hostile ones.
 
-    check_http.py [--collector crates/aggregator/out/aggregator] [--quick]
+    tools/check/http_answers.py [--collector crates/aggregator/out/aggregator] [--quick]
 
 It starts `aggregator listen --http` over a configuration of its own, with names that need escapes. A peer pushes
 rows, which are then asked for in parts, with conditions and in order; figures go through `promtool` where it is
 installed. Hostile clients drip a head, send heads and targets that are too long, bad methods, two lengths, two hosts
 and bytes that are no request; they ask for other hosts, pipeline, never read, stay silent, hold half requests beside
 `/healthz`, or come a thousand at once. The door's budget, its four answers at once and the health of a clock that
-stands still are tried too. The last line counts passed and failed; the status is 1 where one failed. It takes about a
-minute and a half; `--quick` leaves out what waits.
+stands still are tried too. It wants a built program. The last line counts passed and failed; the status is 1 where one
+failed. It takes about a minute and a half; `--quick` leaves out what waits.
 """
 
 import argparse
 import json
+import pathlib
 import re
 import resource
 import shutil
@@ -21,10 +22,13 @@ import signal
 import socket
 import struct
 import subprocess
+import sys
 import tempfile
 import threading
 import time
 import urllib.parse
+
+sys.path.insert(0, str(pathlib.Path(__file__).resolve().parents[1]))
 
 from lib.collector import COLLECTOR, Collector, free_ports
 from lib.peers_protocol import DEFINE, UPDATE, beat, message, put_int

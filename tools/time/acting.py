@@ -1,8 +1,8 @@
 #!/usr/bin/env python3
 """Measures what pushing a filter's keys to the proxies costs the collector, and how soon they are told.
 
-    time_acting.py [--collector crates/aggregator/out/aggregator] [--sessions 20] [--keys 10000] [--flips 100]
-                   [--hold 60000] [--seconds 10] [--crossings 100] [--proxies 2]
+    tools/time/acting.py [--collector crates/aggregator/out/aggregator] [--sessions 20] [--keys 10000] [--flips 100]
+                         [--hold 60000] [--seconds 10] [--crossings 100] [--proxies 2]
 
 It starts `aggregator listen` with one pushed filter. One peer pushes the keys that make its set; the sessions of
 other peers read what they are told, as fast as it comes. Three things are measured: the collector's processor time a
@@ -11,12 +11,13 @@ from the acknowledgement of an update that brings a key into the set until every
 many times. With `--hold` the push line has that hold, in ms. All sessions live in this one process, which takes a
 processor of its own: with many keys it is what is measured. With `--proxies` so many real HAProxies are told too:
 what they take of a processor stands beside the collector's, and a crossing lasts until each of them refuses the
-client with 429.
+client with 429. It wants a built program, and haproxy with `--proxies`; it compares nothing and ends with 0.
 """
 
 import argparse
 import http.client
 import os
+import pathlib
 import re
 import selectors
 import socket
@@ -26,6 +27,8 @@ import sys
 import tempfile
 import threading
 import time
+
+sys.path.insert(0, str(pathlib.Path(__file__).resolve().parents[1]))
 
 from lib.collector import COLLECTOR, Collector, free_ports, wait_for
 from lib.needs import ends_cleanly, wants

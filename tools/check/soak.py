@@ -1,23 +1,26 @@
 #!/usr/bin/env python3
 """Keeps a collector busy for a long time, and compares its answers with what they have to be.
 
-    soak.py [--collector crates/aggregator/out/aggregator] [--minutes 60] [--pause 0]
+    tools/check/soak.py [--collector crates/aggregator/out/aggregator] [--minutes 60] [--pause 0]
 
 Eight peers push random updates, are lost and come back; others send garbage; an admin clears keys, one by one and by a
 condition; filters come and go, and one is pushed to a proxy. One admin and one client over HTTP look without a pause.
 Twice, after a twelfth of the time and after half of it, a limit of addresses is set and a flood of new keys hits it. A
 collector that then ends itself with status 5 is started again, as its unit does, whose environment it has.
 
-Every half a minute all acknowledgements are awaited, and the collector's whole table, a filter's set, what the proxy
-was told and a ranked list are compared with those of the updates that were sent. The status is 1 where an answer was
-wrong, where a peer, an admin, /healthz or the clock wasn't served, or where resident memory at the end is more than a
-tenth above what it was after ten minutes (a sixth of a shorter time). With a pause, in seconds, between one peer's push
-and the next one's it leaves the machine to others, too.
+Every half a minute all acknowledgements are awaited, and the collector's whole table, the sets of all filters, what the
+proxy was told, and the ranked list, from the admin address and over HTTP, are compared with those of the updates that
+were sent. The status is 1 where an answer was wrong, where a peer, an admin, /healthz or the clock wasn't served for a
+minute, where nobody looked meanwhile, where the flood didn't hit its limit, or where resident memory at the end is more
+than a tenth above what it was after ten minutes (a sixth of a shorter time). The last line says that all was right, or
+what wasn't. With a pause, in seconds, between one peer's push and the next one's it leaves the machine to others, too.
+It wants a built program, and no haproxy.
 """
 
 import argparse
 import collections
 import contextlib
+import json
 import pathlib
 import random
 import signal
@@ -27,12 +30,14 @@ import sys
 import tempfile
 import time
 
+sys.path.insert(0, str(pathlib.Path(__file__).resolve().parents[1]))
+
 from lib.asking import ask
 from lib.beside import FORK, TURN, get, last_of, seated
 from lib.collector import COLLECTOR, Collector, free_ports
 from lib.needs import ends_cleanly, wants
 from lib.peers_protocol import UPDATE, message, put_int
-from lib.surviving import cleared, flooded, of_unit, unlimited, unserved
+from lib.surviving import PATIENCE, cleared, flooded, of_unit, unlimited, unserved
 from lib.told import Proxied
 
 CONFIG = """name agg
@@ -135,16 +140,25 @@ def garbage(port, draw):
         peer.sendall(draw.randbytes(draw.randrange(1, 5000)))
 
 
-def look_on(admin, http, done):
-    """Asks without a pause, an admin and over HTTP."""
+def look_on(admin, http, done, looks):
+    """Asks without a pause, an admin and over HTTP, and counts what was answered."""
     signal.signal(signal.SIGINT, signal.SIG_IGN)
     paths = ("/metrics", "/api/v1/overview", "/api/v1/tables/t?limit=10", "/api/v1/ranks/most")
     turn = 0
     while not done.is_set():
         with contextlib.suppress(OSError):
             ask(("127.0.0.1", admin), "show table t data.gpc0 gt 4000", timeout=30)
-        get(http, paths[turn % 4], timeout=30)
+            looks[0] += 1
+        looks[1] += get(http, paths[turn % 4], timeout=30)[0] == 200
         turn += 1
+
+
+def soon(test):
+    """Whether a test holds within a minute: proxies are told a moment later, and a busy machine takes its time."""
+    ends = time.monotonic() + LATE
+    while not (held := test()) and time.monotonic() < ends:
+        time.sleep(0.1)
+    return held
 
 
 class Soak:
@@ -154,7 +168,8 @@ class Soak:
         self.program, self.draw, self.total = program, draw, 0
         self.ports, self.config = free_ports(3), pathlib.Path(folder) / "soak.conf"
         self.config.write_text(CONFIG.format(peers="\n".join(f"peer {name}" for name in [*PEERS, *OTHERS])))
-        self.filters, self.made, self.restarts = [], 0, 0
+        self.filters, self.made, self.restarts = {}, 0, 0
+        self.looks, self.looked = FORK.Array("Q", 2), [0, 0]
         self.start()
         self.senders = [Sender(name, self.ports[0]) for name in PEERS]
 
@@ -165,7 +180,7 @@ class Soak:
         self.collector = Collector(self.program, peers, admin, self.config, options=options, env=of_unit())
         self.collector.http = http
         self.told, self.done = Proxied(peers, "told"), FORK.Event()
-        self.looking = FORK.Process(target=look_on, args=(admin, http, self.done), daemon=True)
+        self.looking = FORK.Process(target=look_on, args=(admin, http, self.done, self.looks), daemon=True)
         self.looking.start()
 
     def stop(self):
@@ -190,10 +205,13 @@ class Soak:
     def turn_filters(self):
         """Adds a filter, and deletes the oldest where there are many."""
         self.made += 1
-        self.filters.append(f"f{self.made}")
-        self.collector.ask(f"add filter f{self.made} t data.gpc0 ge {self.draw.randrange(1, 3000)}")
+        name, bound = f"f{self.made}", self.draw.randrange(1, 3000)
+        self.filters[name] = bound
+        self.collector.ask(f"add filter {name} t data.gpc0 ge {bound}")
         if len(self.filters) > FILTERS:
-            self.collector.ask(f"del filter {self.filters.pop(0)}")
+            oldest = next(iter(self.filters))
+            del self.filters[oldest]
+            self.collector.ask(f"del filter {oldest}")
 
     def sums(self):
         """Each key's sum of all that was sent."""
@@ -218,9 +236,9 @@ class Soak:
             if self.draw.random() < 0.02:
                 self.turn_filters()
 
-    def starve(self):
-        """A flood hits a limit of addresses, which is taken away again; what was seen."""
-        held, _ = flooded(self.collector, ["flood"], 70, 3, "u")
+    def starve(self, patience):
+        """A flood hits a limit of addresses within so many seconds, and it is taken away again; what was seen."""
+        held, _ = flooded(self.collector, ["flood"], 70, 3, "u", patience)
         took = cleared(self.collector, 16, "u")
         status = self.collector.process.poll()
         if took is not None:
@@ -228,7 +246,7 @@ class Soak:
         elif status == 5:
             self.restarts += 1
             self.stop()
-            self.filters = []
+            self.filters = {}
             self.start()
         else:
             raise RuntimeError(f"no clear is answered after a flood, status {status}")
@@ -243,20 +261,40 @@ class Soak:
         rows = {key: int(row["gpc0"]) for key, row in self.collector.rows("t").items()}
         if rows != {text_of(key): value for key, value in total.items()}:
             return f"show table: {len(rows)} keys for {len(total)}"
-        high = {key for key, value in total.items() if value >= 1000}
-        if self.collector.keys("high") != {text_of(key) for key in high}:
-            return "show filter"
-        first = sorted(total, key=lambda key: (-total[key], key))[:20]
-        if self.collector.rank("most") != [text_of(key) for key in first]:
+        for name, bound in {"high": 1000, **self.filters}.items():
+            if self.collector.keys(name) != {text_of(key) for key, value in total.items() if value >= bound}:
+                return f"show filter {name}"
+        first = [text_of(key) for key in sorted(total, key=lambda key: (-total[key], key))[:20]]
+        if self.collector.rank("most") != first:
             return "show rank"
         if self.told.is_over:
             self.told = Proxied(self.ports[0], "told")
-        ends = time.monotonic() + 10
-        while self.told.keys != {0x0A000000 + key for key in high}:
-            if time.monotonic() > ends:
-                return f"what a proxy was told: {len(self.told.keys)} keys for {len(high)}"
-            time.sleep(0.1)
-        return unserved(self.collector, "later")
+        high = {0x0A000000 + key for key, value in total.items() if value >= 1000}
+        if not soon(lambda: self.told.keys == high):
+            return f"what a proxy was told: {len(self.told.keys)} keys for {len(high)}"
+        answers = []
+        if not soon(lambda: answers.append(self.ranked()) or answers[-1] == first) and any(answers):
+            return "the ranked list over HTTP"
+        return self.unseen() or self.unserved()
+
+    def unserved(self):
+        """Who isn't served for a minute, or nothing: on a busy machine one try may come too late."""
+        ends = time.monotonic() + LATE
+        while (missing := unserved(self.collector, "later", LATE / 3)) and time.monotonic() < ends:
+            time.sleep(1)
+        return missing
+
+    def ranked(self):
+        """The ranked list's keys over HTTP; None where there were too many looks, as others look without a pause."""
+        status, body, _ = get(self.ports[2], "/api/v1/ranks/most")
+        return [entry["key"] for entry in json.loads(body)["entries"]] if status == 200 else None
+
+    def unseen(self):
+        """Who of those that look without a pause was answered nothing since the last time, or nothing."""
+        before, self.looked = self.looked, list(self.looks)
+        looked = zip(("an admin", "a client over HTTP"), self.looked, before)
+        missing = [who for who, now, then in looked if now == then]
+        return f"{' and '.join(missing)} wasn't answered any look" if missing else ""
 
     def line(self, wrong):
         """A line of how it stands."""
@@ -265,7 +303,7 @@ class Soak:
             sender.worst = 0.0
         return (f"{self.total} updates, {self.collector.resident() >> 20} MB, "
                 f"{self.collector.descriptors()} descriptors, {self.collector.threads()} threads, longest push "
-                f"{worst:.1f} s: {wrong or 'right'}")
+                f"{worst:.1f} s, {sum(self.looked)} looks answered: {wrong or 'right'}")
 
 
 def soak(options, folder):
@@ -278,7 +316,7 @@ def soak(options, folder):
             run.round(min(30, whole / 12), options.pause)
             if starving and time.monotonic() - start > starving[0]:
                 starving.pop(0)
-                print(run.starve(), flush=True)
+                print(run.starve(max(PATIENCE, whole / 4)), flush=True)
             wrong = run.wrong()
             print(run.line(wrong), flush=True)
             if wrong:
@@ -288,7 +326,7 @@ def soak(options, folder):
         late = run.collector.resident()
         if late > early * 1.1:
             return f"{late >> 20} MB at the end, and {early >> 20} MB at first"
-        print(f"{late >> 20} MB at the end, {early >> 20} MB at first; started again {run.restarts} times")
+        print(f"all right: {late >> 20} MB at the end, {early >> 20} MB at first; started again {run.restarts} times")
     except (OSError, RuntimeError) as fault:
         return f"{type(fault).__name__}: {fault}"
     finally:

@@ -1,7 +1,7 @@
 #!/usr/bin/env python3
 """Runs the examples of the documents against a started program, and says which print something else.
 
-    check_pages.py [--collector crates/aggregator/out/aggregator] [PAGE ..] [--show]
+    tools/check/pages.py [--collector crates/aggregator/out/aggregator] [PAGE ..] [--show]
 
 PAGE is README.md or a page of docs/; without one all of PAGES are run. An indented or fenced block of a page is an
 example. The comment right above says what is done with it, and a block without one is a fault:
@@ -45,12 +45,14 @@ import sys
 import tempfile
 import time
 
+sys.path.insert(0, str(pathlib.Path(__file__).resolve().parents[1]))
+
 from lib.collector import COLLECTOR, REPOSITORY, free_ports
 from lib.needs import ends_cleanly, wants
 
 NAMES = ("OPERATIONS", "CONFIGURATION", "COMMANDS", "ACTING", "HTTP", "REPLAY")
 PAGES = ["README.md", *(f"docs/{name}.md" for name in NAMES)]
-PRELUDE = pathlib.Path(__file__).with_name("lib") / "pages.sh"
+PRELUDE = REPOSITORY / "tools/lib/pages.sh"
 COMMENT = re.compile(r"<!--\s*(.*?)\s*-->")
 PATIENCE = 15  # s for a question whose answer comes a moment later
 LONGEST = 90  # s for any command
@@ -241,7 +243,7 @@ def places_of(folder):
         found[f"LB{number}_HTTP"] = (f"http of lb{number}", f"127.0.0.1:{next(ports)}")
     address, port = found["ADMIN"][1].split(":")
     found["ADMIN_WORDS"] = ("127.0.0.1 9999", f"{address} {port}")
-    found["ASK"] = ("tools/ask.py", f"{REPOSITORY}/tools/ask.py")
+    found["ASK"] = ("tools/try/ask.py", f"{REPOSITORY}/tools/try/ask.py")
     return found
 
 

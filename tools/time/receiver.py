@@ -1,12 +1,12 @@
 #!/usr/bin/env python3
 """Times how fast a receiver of the peers protocol takes updates: the collector, or HAProxy itself.
 
-    time_receiver.py --collector ../crates/aggregator/out/aggregator --keys 100000 --updates 1000000
-    time_receiver.py --haproxy /usr/sbin/haproxy --keys 100000 --updates 1000000
-    time_receiver.py --to 127.0.0.1:10000 --keys 100000 --updates 1000000
-    time_receiver.py --collector ../crates/aggregator/out/aggregator --ask "show table t key 10.0.0.7"
-    time_receiver.py --collector ../crates/aggregator/out/aggregator --senders 2 --ask "show table t" --pause 0
-    time_receiver.py --collector ../crates/aggregator/out/aggregator --peers 64 --keys 10000 --filter all --rank
+    tools/time/receiver.py --collector crates/aggregator/out/aggregator --keys 100000 --updates 1000000
+    tools/time/receiver.py --haproxy /usr/sbin/haproxy --keys 100000 --updates 1000000
+    tools/time/receiver.py --to 127.0.0.1:10000 --keys 100000 --updates 1000000
+    tools/time/receiver.py --collector crates/aggregator/out/aggregator --ask "show table t key 10.0.0.7"
+    tools/time/receiver.py --collector crates/aggregator/out/aggregator --senders 2 --ask "show table t" --pause 0
+    tools/time/receiver.py --collector crates/aggregator/out/aggregator --peers 64 --keys 10000 --filter all --rank
 
 It speaks as the peer `lb1` to the receiver `agg`, defines a table `t` of addresses with gpc0, conn_cnt and
 http_req_rate(10s), and sends one update of each key, in a scattered order, and then the asked number of
@@ -24,16 +24,21 @@ filter's keys are pushed to the peers.
 
 With `--ask`, each of some rounds behind those pushes as many updates, without ids, twice: alone, and beside an
 admin. The admin asks this over and over, with a pause of 0.1 s or `--pause` between an answer and the next
-question. The medians of both are printed, how they differ, and how long the answers took at rest and meanwhile.
+question. The medians of both are printed, how they differ, and how long the answers took at rest and meanwhile. It
+wants the program that is named, compares nothing and ends with 0.
 """
 
 import argparse
 import multiprocessing
+import pathlib
 import random
 import socket
 import statistics
+import sys
 import tempfile
 import time
+
+sys.path.insert(0, str(pathlib.Path(__file__).resolve().parents[1]))
 
 from lib.collector import resident
 from lib.needs import ends_cleanly, wants

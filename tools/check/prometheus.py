@@ -1,7 +1,7 @@
 #!/usr/bin/env python3
 """Lets a real Prometheus scrape the collector beside two real proxies, and waits for an alert.
 
-    try_prometheus.py [--collector crates/aggregator/out/aggregator] [--minutes 10]
+    tools/check/prometheus.py [--collector crates/aggregator/out/aggregator] [--minutes 10]
 
 It wants Debian's haproxy and prometheus. First promtool checks the rules of examples/alerts.yml, that they fire on
 what they are for (tools/lib/alerts_test.yml), and the collector's figures. Each runbook must be a section of its page.
@@ -18,7 +18,6 @@ import argparse
 import json
 import pathlib
 import re
-import shutil
 import subprocess
 import sys
 import tempfile
@@ -27,6 +26,8 @@ import time
 import urllib.error
 import urllib.parse
 import urllib.request
+
+sys.path.insert(0, str(pathlib.Path(__file__).resolve().parents[1]))
 
 from lib.collector import COLLECTOR, REPOSITORY, Collector, free_ports, wait_for
 from lib.needs import ends_cleanly, wants

@@ -1,25 +1,25 @@
 #!/usr/bin/env python3
 """Runs the gate, and tells where its processor time goes: proofs, tests, edits and programs, for each crate.
 
-    python3 tools/gate_cost.py [--out LOG] [--page docs/GATE.md] [-- COMMAND ..]     (rt ci where none is named)
+    tools/dev/gate_cost.py [--out LOG] [--page docs/GATE.md] [-- COMMAND ..]     (rt ci where none is named)
 
 It looks at the processes that the command starts ten times a second, so what lives shorter isn't counted. A crate's
 line says processor seconds. What the command prints goes to LOG (gate.log), its last line to standard output too.
-Into PAGE it writes the same as a table of processor minutes, between the two lines that say so there.
+Into PAGE it writes the same as a table of processor minutes, between the two lines that say so there. It wants `rt`.
+The status is the command's.
 """
 
 import argparse
 import collections
 import os
 import pathlib
-import re
 import subprocess
 import sys
 import time
 
 TICK = os.sysconf("SC_CLK_TCK")
 KINDS = ("proof", "tests", "edits", "program")
-MARKS = ("<!-- tools/gate_cost.py writes from here -->\n", "<!-- up to here -->\n")
+MARKS = ("<!-- tools/dev/gate_cost.py writes from here -->\n", "<!-- up to here -->\n")
 
 
 def of_process(pid):

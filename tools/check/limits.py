@@ -1,14 +1,19 @@
 #!/usr/bin/env python3
 """Compares the limits that documents and comments name with crates/agg_types/src/limits.rt.
 
-The code cites limits by their names. A few of its places tell a number all the same: they stand
-last. It prints what differs, and what a document no longer tells, and exits with 1 then."""
+    tools/check/limits.py
 
+The code cites limits by their names. A few of its places tell a number all the same: they stand last. It reads texts
+alone, in a second. It prints what differs, what a document no longer tells and a limit that none tells; the status is 1
+where there is one.
+"""
+
+import argparse
+import pathlib
 import re
 import sys
-from pathlib import Path
 
-TOP = Path(__file__).resolve().parent.parent
+TOP = pathlib.Path(__file__).resolve().parents[2]
 WORDS = {"four": 4, "fifth": 5}
 
 # what is told of a limit, a document, and a pattern whose group is the number
@@ -42,6 +47,9 @@ PLACES = [
     ("LARGEST_SIZE", "docs/CONFIGURATION.md", r"a size is 1 to (\d+)"),
     ("LONGEST_KEY", "docs/CONFIGURATION.md", r"a len 1 to (\d+)"),
     ("LONGEST_RANK", "docs/CONFIGURATION.md", r"a ranked list's length 1 to (\d+)"),
+    ("MOST_ROWS", "docs/CONFIGURATION.md", r"list's length 1 to \d+, rows 1 to (\d+)"),
+    ("MOST_ROWS", "docs/CONFIGURATION.md", r"tables and peers together, 1 to ([\d,]+)"),
+    ("MOST_ROWS", "docs/CONFIGURATION.md", r"without the line; ([\d,]+)"),
     ("LARGEST_SIZE", "docs/CONFIGURATION.md", r"Twice HAProxy's, at most ([\d,]+)"),
     ("LONGEST_KEY", "docs/CONFIGURATION.md", r"with keys above (\d+) bytes"),
     ("MOST_TABLES", "docs/CONFIGURATION.md", r"or behind (\d+) others"),
@@ -75,7 +83,11 @@ PLACES = [
     ("MOST_CONDS + 1", "docs/CONFIGURATION.md", r"`store`; a (\w+) condition"),
     ("MOST_PEERS", "docs/CONFIGURATION.md", r"(?:peers|those) beyond (\d+)"),
     ("PERIOD_END - 1", "docs/CONFIGURATION.md", r"period in ms, 1 to (\d+)"),
-    ("PERIOD_END - 1", "docs/CONFIGURATION.md", r"a period of 0 or above (\d+)"),
+    ("PERIOD_END - 1", "docs/CONFIGURATION.md", r"a period(?: or a `keep`)? of 0 or above (\d+)"),
+    ("PERIOD_END - 1", "docs/CONFIGURATION.md", r"a row lives here, in ms, 1 to (\d+)"),
+    ("MOST_ROWS", "docs/CONFIGURATION.md", r"all tables and peers together, 1 to ([\d,]+)"),
+    ("MOST_ROWS", "docs/CONFIGURATION.md", r"no bound without the line; ([\d,]+)"),
+    ("MOST_ROWS", "docs/CONFIGURATION.md", r"rows 1 to (\d+)"),
     ("HOLD_END - 1", "docs/CONFIGURATION.md", r"a hold of [\d,]+ to (\d+)"),
     ("HOLD_END - 1", "docs/CONFIGURATION.md", r"a hold below [\d,]+ or above (\d+)"),
     ("HOLD_END - 1", "docs/ACTING.md", r"A hold is [\d,]+ to ([\d,]+)"),
@@ -83,7 +95,7 @@ PLACES = [
     ("LAST_MOMENT", "docs/PROOFS.md", r"moment up to (2\^\d+)"),
     ("NUMBERS_END", "docs/MODEL.md", r"numbers would pass (2\^\d+) − 1"),
     ("LAST_SEAT", "docs/MODEL.md", r"− 1: (2\^\d+) connections"),
-    ("MOST_SEATS", "docs/PROOFS.md", r"A hub: (\d+) seats"),
+    ("MOST_SEATS", "docs/PROOFS.md", r"[Aa] hub: (\d+) seats"),
     ("MOST_PEERS", "packaging/sesamejoist.service", r"hello, (\d+) peers"),
     # comments
     ("PERIOD_END", "crates/agg_types/src/check.rt", r"a period of 1 to (2\^\d+) - 1 ms"),
@@ -138,6 +150,7 @@ def number_in(text):
 
 
 def main():
+    argparse.ArgumentParser(description=__doc__, formatter_class=argparse.RawDescriptionHelpFormatter).parse_args()
     source = (TOP / "crates/agg_types/src/limits.rt").read_text()
     found = re.findall(r"pub const (\w+): \w+ = ([^;]+);", source)
     limits = {name: value_of(text) for name, text in found}

@@ -1,18 +1,23 @@
 #!/usr/bin/env python3
 """Tries that real proxies act on what the whole fleet saw, and says line by line what passed.
 
-    try_acting.py [--collector crates/aggregator/out/aggregator] [--log FILE]
+    tools/check/acting.py [--collector crates/aggregator/out/aggregator] [--log FILE]
 
 It starts `aggregator listen` with examples/acting.conf and Debian's haproxy as two proxies with examples/acting.cfg. A
 client sends 60 requests through each: neither counts more than 100, the fleet does, and both proxies refuse it with
 429, while others are served. It is served again once the fleet's filter has let it go; within 10 s where the
-collector is killed; and a proxy that starts anew, or whose master starts a new worker, refuses it at once. The last line counts passed and failed; the
-status is 1 where one failed.
+collector is killed; and a proxy that starts anew, or whose master starts a new worker, refuses it at once. It wants
+haproxy and a built program. The last line counts passed and failed; the status is 1 where one failed, and 2 where
+something is missing.
 """
 
 import argparse
+import pathlib
+import sys
 import tempfile
 import time
+
+sys.path.insert(0, str(pathlib.Path(__file__).resolve().parents[1]))
 
 from lib.collector import COLLECTOR, Collector, free_ports, wait_for
 from lib.needs import ends_cleanly, wants

@@ -1,7 +1,7 @@
 #!/usr/bin/env python3
 """Attacks a collector in the ways that brought one down, stalled it or filled it, and says whether it stands.
 
-    attack.py [PROGRAM] [--quick] [--only NAME].. [--list]
+    tools/check/attack.py [PROGRAM] [--quick] [--only NAME].. [--list]
 
 PROGRAM is crates/aggregator/out/aggregator unless another is named. Each attack starts collectors of its own, on free
 ports of this machine, and ends them. For each it prints a line with what it saw: `held` where that stands within the
@@ -27,6 +27,8 @@ import sys
 import tempfile
 import threading
 import time
+
+sys.path.insert(0, str(pathlib.Path(__file__).resolve().parents[1]))
 
 from lib.beside import FORK, HOUR, TURN, Beside, Pushed, Stranger, definition, get, last_of, rows, seated
 from lib.collector import COLLECTOR, Collector

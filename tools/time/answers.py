@@ -1,22 +1,26 @@
 #!/usr/bin/env python3
 """Times the answers of the collector, or of HAProxy itself, over the same keys.
 
-    time_answers.py --haproxy /usr/sbin/haproxy --keys 100000
-    time_answers.py --collector ../crates/aggregator/out/aggregator --keys 100000
-    time_answers.py --collector ../crates/aggregator/out/aggregator --keys 100000 --peers 20
+    tools/time/answers.py --haproxy /usr/sbin/haproxy --keys 100000
+    tools/time/answers.py --collector crates/aggregator/out/aggregator --keys 100000
+    tools/time/answers.py --collector crates/aggregator/out/aggregator --keys 100000 --peers 20
 
-It speaks as the peer `lb1` to the receiver `agg`, as time_receiver.py does, and with `--peers` as so many peers that
+It speaks as the peer `lb1` to the receiver `agg`, as receiver.py does, and with `--peers` as so many peers that
 hold the same keys, which HAProxy isn't asked for. It defines a table `t` of addresses
 with gpc0, conn_cnt and http_req_rate(10s). The key of each number n has gpc0 n modulo 200. Then it asks for the
 whole table, for the rows of one key in 200, and for one key, each the least of five times, and clears the table.
-A time is from the question's first byte to the answer's last; the bytes of each answer are printed too.
+A time is from the question's first byte to the answer's last; the bytes of each answer are printed too. It wants
+the program that is named, compares nothing and ends with 0.
 """
 
 import argparse
 import pathlib
 import struct
+import sys
 import tempfile
 import time
+
+sys.path.insert(0, str(pathlib.Path(__file__).resolve().parents[1]))
 
 from lib.collector import Collector, free_ports
 from lib.needs import ends_cleanly, wants

@@ -1,16 +1,17 @@
 #!/usr/bin/env python3
 """Writes, above each `bytes` line of a replay script, a comment that says what these bytes are.
 
-    python3 tools/annotate.py                 every script of crates/test_replay/data, in place
-    python3 tools/annotate.py FILE ..         these
-    python3 tools/annotate.py --check         changes nothing; ends with 1 where a comment is missing or says something else
+    tools/dev/annotate.py                 every script of crates/test_replay/data, in place
+    tools/dev/annotate.py FILE ..         these
+    tools/dev/annotate.py --check         changes nothing; ends with 1 where a comment is missing or says something else
 
 A comment of this tool begins with `#: `, so what people wrote is left alone. It reads as a story:
 
     #: lb1 says hello to agg; defines t (1): ip, gpc0; update 1 of t: 10.0.0.1 gpc0=5
     bytes 1 4841507...
 
-Scripts whose stored output tells the number of a line are passed over: a comment counts as a line there.
+Scripts whose stored output tells the number of a line are passed over: a comment counts as a line there. It wants
+nothing else.
 """
 
 import argparse
@@ -18,7 +19,7 @@ import ipaddress
 import pathlib
 import sys
 
-ROOT = pathlib.Path(__file__).resolve().parent.parent
+ROOT = pathlib.Path(__file__).resolve().parents[2]
 DATA = ROOT / "crates/test_replay/data"
 STORED = ROOT / "crates/test_replay/stdout"
 MARK = "#: "
@@ -300,7 +301,7 @@ def main():
             if not given.check:
                 file.write_bytes(new.encode("latin-1"))
     if given.check and stale:
-        print("these comments don't say what the bytes are (run tools/annotate.py):", *stale)
+        print("these comments don't say what the bytes are (run tools/dev/annotate.py):", *stale)
         sys.exit(1)
     print(f"{len(files)} scripts, {0 if given.check else len(stale)} changed, {len(passed_over)} passed over")
 

@@ -1,7 +1,7 @@
 #!/usr/bin/env python3
 """Times what keys and lives cost that a hostile client chooses, each beside harmless ones in the same run.
 
-    time_hostile_keys.py [--collector crates/aggregator/out/aggregator] [--keys 1000000] [--only NAME]
+    tools/time/hostile_keys.py [--collector crates/aggregator/out/aggregator] [--keys 1000000] [--only NAME]
 
 It starts the collector anew for each line that it prints, and pushes each key once and then once more:
 
@@ -11,14 +11,19 @@ It starts the collector anew for each line that it prints, and pushes each key o
     peers       one key that 256 peers hold, each of which pushes it over and over
     long        keys of 256 bytes
 
-A line says what an update of the first push and of the second took, in µs, and the resident memory that a key took.
+A line says what an update of the first push and of the second took, in µs, and the resident memory that a key took. It
+wants a built program, compares nothing and ends with 0.
 """
 
 import argparse
 import bisect
 import itertools
+import pathlib
 import struct
+import sys
 import tempfile
+
+sys.path.insert(0, str(pathlib.Path(__file__).resolve().parents[1]))
 
 from lib.collector import COLLECTOR, resident
 from lib.needs import ends_cleanly, wants

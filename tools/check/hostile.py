@@ -1,7 +1,7 @@
 #!/usr/bin/env python3
 """Checks what the collector does with hostile peers, clumsy admins and faults of its surroundings.
 
-    check_hostile.py [--collector crates/aggregator/out/aggregator] [--only PART]
+    tools/check/hostile.py [--collector crates/aggregator/out/aggregator] [--only PART]
 
 It starts `aggregator listen` (examples/fleet.conf) and speaks to its sockets. Peers send hellos of every verdict,
 broken and cut messages, a byte at a time; they reset, never read, say nothing by the thousand, or drip a hello.
@@ -10,22 +10,26 @@ aren't configured, standard error takes nothing, and the peers' listener breaks.
 nothing, ask for all of it all the time, or answer what nobody said. Memory runs out while rows are shown, browsers send
 HTTP to the admin address, the system refuses threads, the Unix socket is looked at as it comes, and lines are provoked
 by the thousand. The clock's thread stands still, the whole process is stopped, and standard streams are closed. Signals
-and ports that are taken are tried too. The last line counts passed and failed; the status is 1 where one failed. It
-takes about seven minutes. tools/attack.py has the same and more with figures.
+and ports that are taken are tried too. It wants a built program. The last line counts passed and failed; the status is
+1 where one failed. It takes about seven minutes. tools/check/attack.py has the same and more with figures.
 """
 
 import argparse
 import ctypes
 import os
+import pathlib
 import re
 import resource
 import signal
 import socket
 import struct
 import subprocess
+import sys
 import tempfile
 import threading
 import time
+
+sys.path.insert(0, str(pathlib.Path(__file__).resolve().parents[1]))
 
 from lib.beside import FORK, Beside
 from lib.collector import COLLECTOR, CONFIG, REPOSITORY, Collector, free_ports
@@ -529,10 +533,10 @@ def checking(report, options):
     report.check("also one in a file", 1, lambda: "" if run(named) == (0, b"ok\n", b"") else run(named))
     faulty = b"name agg\npeer\ntable t type ip size 1x\npeer lb1\npeer lb1\n"
     wanted = b"config line 2: Syntax\nconfig line 3: Number\nconfig line 5: Duplicate\n"
-    form = b"; write: table <name> type <type> size <rows> [store <column>,<rate>(<ms>)]\n"
+    form = b"; write: table <name> type <type> size <rows> [keep <ms>] [store <column>,<rate>(<ms>)]\n"
     explained = (b"config line 2, word 2 is missing: expected a name; write: peer <name>\n"
                  b"config line 3, word 6 \"1x\": expected a number of 1 to 20 digits" + form +
-                 b"config line 5: the name stands already, or a column twice; "
+                 b"config line 5: the name stands already, or a column or rows twice; "
                  b"a pushed filter has no table's name\n")
     report.check("every faulty line is told and explained", 1,
                  lambda: "" if run(["check"], faulty) == (3, wanted, explained) else run(["check"], faulty))

@@ -1,7 +1,7 @@
 #!/bin/sh
 # Makes a Debian package of the proved program, and prints its name and its SHA-256.
 #
-#     tools/package.sh [the aggregator program [the folder to write to]]
+#     tools/dev/package.sh [the aggregator program [the folder to write to]]
 #
 # The program is crates/aggregator/out/aggregator unless another is named. It is packed only where ./build or ./test left a
 # stamp beside it, by which it was proved from the sources of the present commit, with the kit that is installed. The
@@ -10,10 +10,11 @@
 # 2026-11-30, 06:13:55 UTC. Two runs over one program and one commit make the same file: all times are the last commit's,
 # or SOURCE_DATE_EPOCH, and what git doesn't track isn't packed. It wants dpkg-deb, gzip, git and python3.
 set -eu
+case ${1:-} in -h | --help) sed -n '2,/^set -eu/s/^# \{0,1\}//p' "$0"; exit 0 ;; esac
 umask 022
 export LC_ALL=C
 here=$PWD
-cd "$(dirname "$0")/.."
+cd "$(dirname "$0")/../.."
 program=${1:-crates/aggregator/out/aggregator}
 to=${2:-.}
 case $program in /*) ;; *) [ $# -eq 0 ] || program=$here/$program ;; esac
