@@ -136,8 +136,8 @@ impl<'a> fmt::Display for Source<'a> {
             Event::StrangerGone {
                 address: Some(address),
                 ..
-            }
-            | Event::Alarm(Alarm::HttpAtAdmin {
+            } => write!(f, " address={}", Network(address)),
+            Event::Alarm(Alarm::HttpAtAdmin {
                 address: Some(address),
             }) => write!(f, " address={}", Network(address)),
             _ => Ok(()),

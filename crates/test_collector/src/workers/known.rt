@@ -7,7 +7,7 @@ ghost use Rattle.serve.specs.Commands.{IsCommandedWhole};
 ghost use Rattle.serve.specs.Traffic.{so_far};
 ghost use Rattle.serve.specs.Working.{IsServedWhole};
 
-use crate::workers::admins::lens_of;
+use crate::workers::admins::{lens_of, seat_of};
 use crate::workers::bytes::{AT_ONCE, QUESTIONS};
 use crate::workers::memory::{Turnstile, Watch};
 use crate::workers::recording::Recording;
@@ -91,7 +91,7 @@ fn command<'a, J: Naming, H: Wait + Drop, R: Wait>(
 fn session<J: Naming, H: Wait + Drop, R: Wait + Clock>(
     context: &Context<'_, J, H, R, Watch, Turnstile>,
 ) -> Option<Known<'static>> {
-    let pass = context.hub.seat(context.rt).ok()?;
+    let pass = seat_of(context.rt, context.hub)?;
     talk(context, pass, AT_ONCE)
 }
 
@@ -100,7 +100,7 @@ fn admin<J: Naming, H: Wait + Drop, R: Wait>(
     context: &Context<'_, J, H, R, Watch, Turnstile>,
 ) -> Option<Known<'static>> {
     let lens = lens_of(context.rt, context.hub)?;
-    let pass = context.hub.seat(context.rt).ok()?;
+    let pass = seat_of(context.rt, context.hub)?;
     command(context, lens, pass, QUESTIONS)
 }
 
