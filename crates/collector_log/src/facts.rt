@@ -66,6 +66,7 @@ impl<'a, R: Clock + Wait + Memory> Facts for CollectorFacts<'a, R> {
             waiting: self.connections.count_waiting(&self.clock.rt),
             refused: totals.refused,
             memory: self.clock.rt.resident(),
+            processor: self.clock.rt.worked(),
             peers: self.peers()?,
             rates: self.board.rates(&self.clock.rt)?,
         })

@@ -136,6 +136,10 @@ impl<R> Memory for Still<R> {
     fn resident(&self) -> Option<u64> {
         Some(13_381_632)
     }
+
+    fn worked(&self) -> Option<u64> {
+        Some(1240)
+    }
 }
 
 /// A standard error that writes a few lines, and counts those behind them.

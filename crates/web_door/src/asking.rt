@@ -7,7 +7,7 @@ use book::Book;
 use key_text::read_key;
 use show_clear::{Command, CommandFault, Question as Asked, parse};
 use std::alloc::Global;
-use web_lists::{filter_list, one_key, rank_list, row_list, table_list};
+use web_lists::{filter_list, index, one_key, rank_list, row_list, table_list};
 use web_target::{Part, Question};
 use web_text::{AskFault, Entries};
 
@@ -60,6 +60,7 @@ pub fn list_of(
     question: &Question,
 ) -> Result<Vec<u8>, ListFault> {
     match question {
+        Question::Index => Ok(index(alloc, book.config())?),
         Question::Table { name, conds, part } => {
             table_of(alloc, book, events, name.as_slice(), conds.as_slice(), part)
         }

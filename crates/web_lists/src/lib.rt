@@ -6,12 +6,14 @@
 //! for than are told, and one (`Book::first_rows`).
 #![tactic(auto)]
 
+mod indexing;
 mod lists;
 mod of_key;
 mod parts;
 mod summing;
 mod values;
 
+pub use indexing::index;
 pub use lists::{filter_list, rank_list, row_list, table_list};
 pub use of_key::one_key;
 pub use summing::{held_by, summed_up};

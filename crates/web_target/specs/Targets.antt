@@ -180,10 +180,11 @@ asked_of path words =
     if starts_with nat_eq path (codes "/api/v1/") then called_of (drop 8 path) words
     else Err NotFound
 
--- what a target asks for; the query of the first three says nothing
+-- what a target asks for; the query of the first four says nothing
 unfoldable pub question_of : List ℕ → Option (List ℕ) → Read Question
 question_of path query =
     if bytes_eq path (codes "/") then Ok asks.Page
     else if bytes_eq path (codes "/healthz") then Ok asks.Health
     else if bytes_eq path (codes "/metrics") then Ok asks.Metrics
+    else if bytes_eq path (codes "/api/v1") then Ok asks.Index
     else asked_of path (words_in query)

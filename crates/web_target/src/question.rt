@@ -22,6 +22,8 @@ pub enum Question {
     Health,
     /// The figures, for Prometheus.
     Metrics,
+    /// What there is: the names of tables, filters and ranked lists, and the paths.
+    Index,
     /// What the page shows.
     Overview,
     /// The peers.

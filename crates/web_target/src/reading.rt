@@ -25,6 +25,8 @@ pub fn read(alloc: Global, path: &[u8], query: Option<&[u8]>) -> Result<Question
         Ok(Question::Health)
     } else if path == b"/metrics".as_slice() {
         Ok(Question::Metrics)
+    } else if path == b"/api/v1".as_slice() {
+        Ok(Question::Index)
     } else {
         asked_of(alloc, path, words_in(alloc, query))
     }

@@ -74,6 +74,12 @@ pub(crate) const MEMORY: Figure = Figure {
     help: b"Resident memory of the process.",
 };
 
+pub(crate) const PROCESSOR: Figure = Figure {
+    name: b"process_cpu_seconds_total",
+    grows: true,
+    help: b"Time that processors worked for the process.",
+};
+
 pub(crate) const PEER_CONNECTED: Figure = Figure {
     name: b"sesamejoist_peer_connected",
     grows: false,

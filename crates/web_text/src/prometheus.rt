@@ -153,9 +153,12 @@ fn put_collector(
     lines.alone(REFUSED, count(standing.refused))?;
     lines.alone(WAITING, count(standing.waiting as u64))?;
     lines.alone(SEATS, count(standing.seats))?;
-    match standing.memory {
+    if let Some(bytes) = standing.memory {
+        lines.alone(MEMORY, count(bytes))?;
+    }
+    match standing.processor {
         None => Ok(()),
-        Some(bytes) => lines.alone(MEMORY, count(bytes)),
+        Some(time) => lines.alone(PROCESSOR, Value::Time(time)),
     }
 }
 

@@ -56,6 +56,8 @@ pub struct Standing {
     pub refused: u64,
     /// The resident memory of the process, in bytes, where it is known.
     pub memory: Option<u64>,
+    /// How long processors worked for the process, in ms, where it is known.
+    pub processor: Option<u64>,
     /// Those of the configuration, in its order.
     pub peers: Vec<PeerStanding>,
     /// How many updates came in each of the last seconds, the oldest first.

@@ -79,6 +79,7 @@ pub fn standing(alloc: Global, now: u64) -> Result<Standing> {
         waiting: 3,
         refused: 5,
         memory: Some(13_381_632),
+        processor: Some(1240),
         peers,
         rates,
     })

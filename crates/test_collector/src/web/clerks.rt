@@ -85,6 +85,7 @@ GET /api/v1/tables/%2Ft/keys/seven HTTP/1.1\r\nHost: 127.0.0.1\r\n\r\n\
 GET /api/v1/filters/few?after=a%20b HTTP/1.1\r\nHost: 127.0.0.1\r\n\r\n\
 GET /api/v1/filters/none HTTP/1.1\r\nHost: 127.0.0.1\r\n\r\n\
 GET /api/v1/peers?limit=1 HTTP/1.1\r\nHost: Collector.Example:9998\r\n\r\n\
+GET /api/v1 HTTP/1.1\r\nHost: 127.0.0.1\r\n\r\n\
 GET /nothing HTTP/1.1\r\nHost: 127.0.0.1\r\nConnection: close\r\n\r\n";
 
 /// Requests for hosts that aren't the collector's, for one that is by its target alone, and for

@@ -38,6 +38,7 @@ fn show_question(rt: &impl Print, question: &Question) -> Result<()> {
         Question::Page => say(rt, "page"),
         Question::Health => say(rt, "health"),
         Question::Metrics => say(rt, "metrics"),
+        Question::Index => say(rt, "index"),
         Question::Overview => say(rt, "overview"),
         Question::Peers(part) => show_named(rt, "peers", b"", part),
         Question::Table { name, conds, part } => {
