@@ -8,3 +8,6 @@ pub mod LinesBack
 pub mod TextBack
 pub mod Pushing
 pub mod ConfigBack
+pub mod Behind
+pub mod Found
+pub mod Judged

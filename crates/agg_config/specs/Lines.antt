@@ -1,9 +1,11 @@
--- A configuration that is read line by line.
-use Rattle.std.specs.Prelude.{◌≡◌, ℕ, Bool, List, ◌++◌, length, Option, None, Some, Result, Ok}
-use Rattle.std.specs.Prelude.{Err}
+-- A configuration that is read, or judged, line by line.
+use Rattle.std.specs.Prelude.{◌≡◌, ◌≢◌, ℕ, ◌+◌, Bool, List, ◌++◌, length, Option, None, Some}
+use Rattle.std.specs.Prelude.{Result, Ok, Err}
 use Rattle.agg_types.specs.declared.config.Config.{Config}
 use Rattle.agg_config.specs.Reading.{AreSound, IsFirstFault, Write, is_named, written}
+use Rattle.agg_config.specs.declared.causes.LineCause.TheVariants.{NoMemory}
 use Rattle.agg_config.specs.declared.causes.LineFault.{LineFault}
+use Rattle.agg_config.specs.declared.checker.Checker.{Checker}
 use Rattle.agg_config.specs.declared.reader.Reader.{Reader}
 
 -- so many lines, without a fault, write this configuration; one of them gives it its name or not
@@ -32,3 +34,17 @@ lines_read reader = reader.count
 abbrev pub Finishes : List (List ℕ) → Result Config LineFault → Type 0
 Finishes lines (Ok config) = Write lines config
 Finishes lines (Err fault) = IsFirstFault lines fault
+
+-- a checker has judged these lines, one after the other, none of them faulty
+abbrev pub HasJudged : Checker → List (List ℕ) → Type 0
+HasJudged checker lines = AreWritten lines checker.config checker.named checker.count
+
+-- how many lines a checker has judged
+abbrev pub lines_judged : Checker → ℕ
+lines_judged checker = checker.count
+
+-- the lines write a configuration, or lack a name, which is a fault behind the last
+abbrev pub Ends : List (List ℕ) → Option LineFault → Type 0
+Ends lines None = (config : Config) × Write lines config
+Ends lines (Some fault) =
+    IsFirstFault lines fault × (fault.line ≡ length lines + 1) × (fault.cause ≢ NoMemory)

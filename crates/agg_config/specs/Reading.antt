@@ -172,6 +172,12 @@ pub record Passes (config : Config) (named : Bool) (line : Meaning) (after : Con
 abbrev pub FailsFirst : Wrong → List Wrong → Type 0
 FailsFirst wrong faults = wrong.cause ≢ NoMemory → slice_get faults 0 ≡ Some wrong
 
+-- a configuration became another, which has no fault, or stayed as it was, because the other has
+abbrev pub Puts : Config → Config → Result (Unit {0}) Wrong → Config → Type 0
+Puts config more (Ok done) after = (all_faults more ≡ []) × (after ≡ more)
+Puts config more (Err wrong) after =
+    FailsFirst wrong (map wrong_check (all_faults more)) × (after ≡ config)
+
 -- the first fault of a line behind others, if it has one
 unfoldable pub line_fault : List (List ℕ) → List ℕ → Option Wrong
 line_fault before line =

@@ -1,30 +1,21 @@
 //! The lines of a configuration, one after the other.
 
-ghost use Rattle.std.specs.Prelude.{◌≡◌, ◌≤◌, ◌<◌, ◌+◌, ◌^◌, ◌++◌, ℕ, true, List, [], ◌∷◌, None};
-ghost use Rattle.std.specs.Prelude.{OnOk, IfOk, IfErr};
+ghost use Rattle.std.specs.Prelude.{◌≡◌, ◌≤◌, ◌<◌, ◌+◌, ◌^◌, ◌++◌, ℕ, true, List, []};
+ghost use Rattle.std.specs.Prelude.{◌∷◌, None, Some, Ok, OnOk, OnErr, IfOk, IfErr, slice_get};
 ghost use Rattle.agg_types.specs.Check.{all_faults, config_faults};
+ghost use Rattle.agg_types.specs.declared.config.Config.{Config};
 ghost use Rattle.line_words.specs.Words.{lines_of};
 ghost use Rattle.agg_config.specs.Reading.{FailsFirst, IsFirstFault, Passes, Write, bounds_again};
-ghost use Rattle.agg_config.specs.Reading.{declaring, faults_behind, is_me, meaning, opening};
-ghost use Rattle.agg_config.specs.Reading.{table_at, takes_memory, wrong_check};
+ghost use Rattle.agg_config.specs.Reading.{faults_behind, is_me, meaning, opening, takes_memory};
 ghost use Rattle.agg_config.specs.declared.causes.LineCause.TheVariants.{NoMemory as RefusedLine};
 
 use crate::causes::Wrong;
 use crate::declarations::{Declaration, declared};
+use crate::declaring::{declare, second_name, wrong_check};
 use crate::{LineCause, LineFault};
-use agg_types::{Config, ConfigFault, Declared, Filter, Name, NoMemory, Rank, Shape};
+use agg_types::{Config, ConfigFault, Declared, Name, NoMemory};
 use line_words::next_line;
 use std::alloc::Global;
-
-// The position of the table of a name; past the last where there is none, so that it is unknown.
-fn table_at(tables: &Declared<Shape>, name: &[u8]) -> usize
-    ensures { result ≡ table_at tables.now name.now }
-{
-    match tables.position(name) {
-        None => tables.len(),
-        Some(table) => table,
-    }
-}
 
 fn is_me(declaration: &Declaration) -> bool
     ensures { result ≡ is_me declaration.now }
@@ -45,78 +36,67 @@ fn bounds_again(config: &Config, declaration: &Declaration) -> bool
     }
 }
 
-// Puts a declaration behind the others.
-fn declare(config: &mut Config, declaration: Declaration) -> Result<(), NoMemory>
-    ensures { OnOk result (config.new ≡ declaring config.old declaration) }
-{
-    match declaration {
-        Declaration::Me(name) => config.me = name,
-        Declaration::Peer(name) => config.peers.push(name)?,
-        Declaration::Table(shape) => config.tables.push(shape)?,
-        Declaration::Filter { name, table, conds } => {
-            let table = table_at(&config.tables, table.as_slice());
-            config.filters.push(Filter { name, table, conds })?
-        }
-        Declaration::Rank {
-            name,
-            table,
-            col,
-            n,
-        } => {
-            let table = table_at(&config.tables, table.as_slice());
-            config.ranks.push(Rank {
-                name,
-                table,
-                col,
-                n,
-            })?
-        }
-        Declaration::Push(push) => config.pushes.push(push)?,
-        Declaration::Rows(rows) => config.rows = Some(rows),
-    }
-    Ok(())
-}
-
-// Reads a line behind the others. After a fault the configuration is of no use.
-fn read_line(alloc: Global, config: &mut Config, named: &mut bool, line: &[u8]) -> Result<(), Wrong>
+/// Reads a line behind the others. A faulty one changes nothing, nor does one whose allocation
+/// fails.
+pub(crate) fn read_line(
+    alloc: Global,
+    config: &mut Config,
+    named: &mut bool,
+    line: &[u8],
+) -> Result<(), Wrong>
     requires { all_faults config.old ≡ [] }
-    ensures sound { OnOk result (all_faults config.new ≡ []) }
+    ensures sound { all_faults config.new ≡ [] }
     ensures ok { OnOk result (Passes config.old named.old (meaning line.now) config.new named.new) }
     ensures err { IfErr result (λ wrong. FailsFirst wrong
         (faults_behind config.old named.old (meaning line.now))) }
     ensures spare { IfErr result (λ wrong. wrong.cause ≡ RefusedLine
         → takes_memory line.now ≡ true) }
+    ensures config { OnErr result (config.new ≡ config.old) }
+    ensures named { OnErr result (named.new ≡ named.old) }
 {
-    let Some(declaration) = declared(alloc, line)? else {
-        return Ok(());
-    };
+    match declared(alloc, line)? {
+        None => Ok(()),
+        Some(declaration) => add(config, named, declaration),
+    }
+}
+
+// Adds a declaration to the others, where it goes with them.
+fn add(config: &mut Config, named: &mut bool, declaration: Declaration) -> Result<(), Wrong>
+    requires { all_faults config.old ≡ [] }
+    ensures sound { all_faults config.new ≡ [] }
+    ensures ok { OnOk result
+        (Passes config.old named.old (Ok (Some declaration)) config.new named.new) }
+    ensures err { IfErr result (λ wrong. FailsFirst wrong
+        (faults_behind config.old named.old (Ok (Some declaration)))) }
+    ensures config { OnErr result (config.new ≡ config.old) }
+    ensures named { OnErr result (named.new ≡ named.old) }
+{
     if bounds_again(config, &declaration) {
         return Err(wrong_check(ConfigFault::Duplicate));
     }
     let me = is_me(&declaration);
-    declare(config, declaration)?;
-    match config.check() {
-        Ok(()) => {}
-        Err(fault) => return Err(wrong_check(fault)),
-    }
     if *named && me {
-        return Err(wrong_check(ConfigFault::Duplicate));
+        return Err(second_fault(&declaration));
     }
+    declare(config, declaration)?;
     *named = *named || me;
     Ok(())
 }
 
-fn wrong_check(fault: ConfigFault) -> Wrong
-    ensures { result ≡ wrong_check fault }
+// What is wrong with a name of the collector where it has one already.
+fn second_fault(declaration: &Declaration) -> Wrong
+    requires { is_me declaration.now ≡ true }
+    ensures { (config : Config) → all_faults config ≡ []
+        → slice_get (faults_behind config true (Ok (Some declaration.now))) 0 ≡ Some result }
 {
-    Wrong {
-        cause: LineCause::Check(fault),
-        place: None,
+    match declaration {
+        Declaration::Me(name) => second_name(name),
+        _ => wrong_check(ConfigFault::Duplicate),
     }
 }
 
-// No peer, table, filter, ranked list, push or bound, under a name that isn't the collector's yet.
-fn opening(alloc: Global) -> Result<Config, NoMemory>
+/// No peer, table, filter, ranked list, push or bound, under a name that isn't the collector's yet.
+pub(crate) fn opening(alloc: Global) -> Result<Config, NoMemory>
     ensures { IfOk result (λ config. config ≡ opening) }
 {
     Ok(Config {

@@ -1,7 +1,8 @@
 //! What is wrong with a configuration, in words.
 
-ghost use Rattle.std.specs.Prelude.{◌≡◌, ◌++◌, OnOk};
+ghost use Rattle.std.specs.Prelude.{◌≡◌, ◌≤◌, ◌-◌, ◌++◌, ℕ, List, OnOk, drop};
 ghost use Rattle.std.specs.Fmt.{decimal};
+ghost use Rattle.line_words.specs.Numbered.{line_at};
 ghost use Rattle.line_words.specs.Words.{lines_of, words};
 ghost use Rattle.config_text.specs.Explained.{cause_text, check_text, expected_text, explanation};
 ghost use Rattle.config_text.specs.Explained.{explanations, form_named, form_of, found_text};
@@ -18,7 +19,7 @@ use agg_types::limits::{
 };
 use agg_types::{ConfigFault, KeyKind, NoMemory};
 use key_text::{append_key, append_number, append_text};
-use line_words::{Expected, Misread, line_at, word_at};
+use line_words::{Expected, Misread, line_at, next_line, word_at};
 
 /// The longest period and the longest hold, in ms.
 const LAST_PERIOD: u64 = PERIOD_END as u64 - 1;
@@ -45,10 +46,72 @@ pub fn append_explanations(
     ensures { OnOk result
         (out.new.items ≡ out.old.items ++ explanations (lines_of text.now) faults.now) }
 {
+    let mut left = text;
+    let mut before = 0;
     for fault in faults {
-        append_explanation(text, *fault, out)?;
+        let ahead = fault.line.saturating_sub(1);
+        left = seek(text, left, before, ahead);
+        before = ahead;
+        append_behind(*fault, left, out)?;
     }
     Ok(())
+}
+
+// What stands behind so many lines of a text, by what stands behind some: those are passed over but
+// once where the lines wanted ascend.
+fn seek<'a>(text: &'a [u8], left: &'a [u8], before: usize, ahead: usize) -> &'a [u8]
+    requires { lines_of left.now ≡ drop before (lines_of text.now) }
+    ensures { lines_of result.now ≡ drop ahead (lines_of text.now) }
+{
+    if ahead < before {
+        behind_lines(text, ahead)
+    } else {
+        behind_more(text, left, before, ahead)
+    }
+}
+
+// The same where no fewer lines are wanted than stand before what is left.
+fn behind_more<'a>(text: &'a [u8], left: &'a [u8], before: usize, ahead: usize) -> &'a [u8]
+    requires front { lines_of left.now ≡ drop before (lines_of text.now) }
+    requires within { before ≤ ahead }
+    ensures { lines_of result.now ≡ drop ahead (lines_of text.now) }
+{
+    let _ = text;
+    behind_lines(left, ahead - before)
+}
+
+// What stands behind so many lines.
+fn behind_lines(text: &[u8], count: usize) -> &[u8]
+    ensures { lines_of result.now ≡ drop count (lines_of text.now) }
+{
+    let mut left = text;
+    let mut ahead = count;
+    'lines: while let Some((_line, rest)) = next_line(left) {
+        if ahead == 0 {
+            return left;
+        }
+        ahead -= 1;
+        left = rest;
+    }
+    left
+}
+
+// The first line; empty where there is none.
+fn first_line(text: &[u8]) -> &[u8]
+    ensures { result.now ≡ line_at 1 (lines_of text.now) }
+{
+    match next_line(text) {
+        Some((line, _)) => line,
+        None => b"",
+    }
+}
+
+// Appends what explains a fault, by what stands behind the lines before its own.
+fn append_behind(fault: LineFault, left: &[u8], out: &mut Vec<u8>) -> Result<(), NoMemory>
+    ensures { (lines : List (List ℕ)) → lines_of left.now ≡ drop (fault.line - 1) lines
+        → OnOk result (out.new.items ≡ out.old.items ++ explanation lines fault) }
+{
+    append_line(fault, first_line(left), out)
 }
 
 /// Appends what explains a fault of a text's lines, with an LF: the line, the word that is wrong or

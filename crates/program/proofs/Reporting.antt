@@ -2,13 +2,13 @@
 use Rattle.std.proofs.Common.{◌≡◌, ◌≢◌, ℕ, List, [], ◌∷◌, Option, IfSome, inl, inr, subst}
 use Rattle.std.proofs.Common.{append-nil}
 use Rattle.std.specs.Io.KnownBytes.{Appends}
+use Rattle.agg_config.specs.Faults.{AreFaults}
 use Rattle.agg_config.specs.Reading.{IsFirstFault}
 use Rattle.agg_config.specs.declared.causes.LineCause.TheVariants as cause
 use Rattle.agg_config.specs.declared.causes.LineFault.{LineFault}
 use Rattle.command_line.specs.declared.job.Endpoints.{Endpoints}
 use Rattle.config_text.specs.Explained.{explanation}
 use Rattle.line_words.specs.Words.{lines_of}
-use Rattle.program.specs.Checking.{AreFaults}
 use Rattle.program.specs.Faults.{line_text}
 use Rattle.program.specs.Wiring.{Begins, Checks, Reported, StopsReport, StopsTelling}
 use Rattle.program.specs.Wiring.{Streams}

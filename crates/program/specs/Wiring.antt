@@ -3,6 +3,7 @@ use Rattle.std.specs.Prelude.{◌≡◌, ◌≢◌, ◌⊎◌, ℕ, List, [], �
 use Rattle.std.specs.Io.KnownBytes.{Appends, Keeps}
 use Rattle.agg_types.specs.Check.{config_faults}
 use Rattle.agg_types.specs.declared.config.Config.{Config}
+use Rattle.agg_config.specs.Faults.{AreFaults}
 use Rattle.agg_config.specs.Reading.{IsFirstFault, Write}
 use Rattle.agg_config.specs.declared.causes.LineCause.TheVariants as cause
 use Rattle.agg_config.specs.declared.causes.LineFault.{LineFault}
@@ -19,7 +20,7 @@ use Rattle.haproxy_import.specs.Found.{Reads, imported}
 use Rattle.replay.specs.Script.{IsReplayed}
 use Rattle.replay.specs.Status.{status_of as ending_status}
 use Rattle.replay.specs.declared.ending.Ending.{Ending}
-use Rattle.program.specs.Checking.{AreFaults, checked_status, checked_text}
+use Rattle.program.specs.Checking.{checked_status, checked_text}
 use Rattle.program.specs.Faults.{IsTextOf, line_text}
 use Rattle.program.specs.Texts.{read_from}
 use Rattle.program.specs.declared.fault.Fault.{Fault}

@@ -2,12 +2,13 @@
 
 ghost use Rattle.std.specs.Prelude.{◌≡◌, ◌⊎◌, ℕ, List, Option, map, IfOk, IfSome, OnErr, OnOk};
 ghost use Rattle.std.specs.Io.KnownBytes.{Appends};
-ghost use Rattle.program.specs.Checking.{AreFaults, checked_text};
+ghost use Rattle.agg_config.specs.Faults.{AreFaults};
+ghost use Rattle.program.specs.Checking.{checked_text};
 ghost use Rattle.program.specs.Wiring.{Begins, Breaks, Checks, Does, Fails, Halts, Imports, IsCut};
 ghost use Rattle.program.specs.Wiring.{IsFirstAlone, Prepares, Replays, Reported, Stops};
 ghost use Rattle.program.specs.Wiring.{StopsReport, StopsTelling, Tells, streams};
 
-use crate::checking::{explained_faults, faults_of, print_faults};
+use crate::checking::{explained_faults, print_faults};
 use crate::fault::{FAULT, Fault, tell};
 use crate::files::{Files, read_text};
 use crate::prepared::{Asked, Prepared};
@@ -167,7 +168,7 @@ fn check<O: Write, E: Write>(
         → OnErr result (StopsTelling AreFaults known (streams (O.contents output.old)
         (O.contents output.new) (E.contents errors.old) (E.contents errors.new))) }
 {
-    let Ok(faults) = faults_of(alloc, text) else {
+    let Ok(faults) = agg_config::faults(alloc, text) else {
         return end(alloc, &Fault::NoMemory, errors);
     };
     report(alloc, text, faults.as_slice(), output, errors)

@@ -1,7 +1,7 @@
 use Rattle.std.proofs.Common.{rules}
 use Rattle.std.proofs.lemmas.Result.{IfOk-weaker, on_err_weaker}
 use Rattle.line_words.specs.Words.{lines_of}
-use Rattle.program.specs.Checking.{AreFaults}
+use Rattle.agg_config.specs.Faults.{AreFaults}
 use Rattle.program.specs.Wiring.{Checks, Reported, streams}
 use Rattle.program.proofs.Reporting.{is_begun, is_checked}
 use Rattle.program.proofs.preparing.check.Goals as goal
