@@ -1,4 +1,4 @@
--- Heartbeats of a session that waits.
+-- Signals of a session that waits.
 use Rattle.std.proofs.Common.{◌≡◌, ℕ, List, [], ◌∷◌, ◌++◌, length, ◌==◌, true, Option, None, Ok}
 use Rattle.std.proofs.Common.{refl, sym, subst, append-nil, arith}
 use Rattle.std.proofs.lemmas.Bool.Decides.{nat_tests}
@@ -8,20 +8,22 @@ use Rattle.session_core.specs.declared.batch.SessionFault.{SessionFault}
 use Rattle.session_core.specs.declared.cause.SessionCause.{SessionCause}
 use Rattle.session_core.specs.declared.cause.SessionCause.TheVariants as causes
 use Rattle.hub.specs.History.{Beginning}
-use Rattle.serve.proofs.Works.{beaten}
+use Rattle.serve.proofs.Works.{signalled}
 use Rattle.serve.specs.declared.poster.Poster.{Poster}
 use Rattle.serve.specs.Told.{HasTold, IsWaiting}
-use Rattle.serve.specs.Turns.{PosterTells, heartbeat}
-use Rattle.serve.specs.Waiting.{Beats}
+use Rattle.serve.specs.declared.waiting.Signal.{Signal}
+use Rattle.serve.specs.Turns.{PosterTells, text_of_signal}
+use Rattle.serve.specs.Waiting.{Signals}
 use Rattle.serve.specs.Working.{EndsFor, EndsTo}
 
-pub beats_none : (a : Option (List ℕ)) → Beats a a
-beats_none a = λ hub seated worker start given w. w
+pub signals_none : (a : Option (List ℕ)) → Signals a a
+signals_none a = λ hub seated worker start given w. w
 
-pub beats_one : (a b : Option (List ℕ)) → Appends a b heartbeat → Beats a b
-beats_one a b sends =
+pub signals_one : (signal : Signal) (a b : Option (List ℕ)) → Appends a b (text_of_signal signal)
+    → Signals a b
+signals_one signal a b sends =
     λ hub seated worker start given w.
-    beaten hub seated worker worker start given a b refl refl refl refl w sends
+    signalled hub seated worker worker signal start given a b refl refl refl refl w sends
 
 nothing_in : (whats : List What) → true ≡ (length whats == 0) → whats ≡ []
 nothing_in [] is = refl

@@ -11,7 +11,7 @@ use Rattle.session_core.specs.Piece.{Setup}
 use Rattle.serve.proofs.Works.{wrote_more}
 use Rattle.serve.specs.declared.faults.WriteFailed.{WriteFailed}
 use Rattle.serve.specs.Tellings.{WritesOn}
-use Rattle.serve.specs.Turns.{Beat, Piece, Say, Sends, Tell, Turn, said_in, text_in, unsaid_in}
+use Rattle.serve.specs.Turns.{Piece, Say, Send, Sends, Tell, Turn, said_in, text_in, unsaid_in}
 use Rattle.telling.specs.Telling.{text_of, turn_text}
 use Rattle.telling.specs.Unsaid.{Unsaid, unsaid_messages}
 use Rattle.telling.specs.declared.pushed.Pushed.{Pushed}
@@ -78,7 +78,7 @@ pub said_and_unsaid : (setup : Setup) (seated : Bool) (turns : List Turn)
 unfolding turn_text
 said_and_unsaid setup seated [] = refl
 said_and_unsaid setup seated (Piece piece ∷ earlier) = said_and_unsaid setup seated earlier
-said_and_unsaid setup seated (Beat ∷ earlier) = said_and_unsaid setup seated earlier
+said_and_unsaid setup seated (Send signal ∷ earlier) = said_and_unsaid setup seated earlier
 said_and_unsaid setup seated (Tell telling ∷ earlier) = refl
 said_and_unsaid setup seated (Say count ∷ earlier) =
     let unsaid : List Message = unsaid_in setup seated earlier in

@@ -29,7 +29,8 @@ use Rattle.serve.specs.Tellings.{AreTellings, Equips, HoldsLast, IsBroughtTo}
 use Rattle.serve.specs.Tellings.{IsExact, IsPushing, IsTelling, KeepsTold, LooksBack, SeesMore}
 use Rattle.serve.specs.Tellings.{SeesShown, ShowsPosted, SomeTelling, StoodIn, TellsOn, TurnsOver}
 use Rattle.serve.specs.Tellings.{asked_pushing, shown_by}
-use Rattle.serve.specs.Turns.{Beat, PosterTells, Piece, Say, Tell, Telling, Turn, asked_if}
+use Rattle.serve.specs.declared.waiting.Signal.{Signal}
+use Rattle.serve.specs.Turns.{PosterTells, Piece, Say, Send, Tell, Telling, Turn, asked_if}
 use Rattle.serve.specs.Turns.{facts_in, pushed_in, seat_at, set_named, sets_in, taken_in, told_in}
 use Rattle.serve.specs.Turns.{unsaid_in}
 use Rattle.session_core.specs.Asking.{asks_all}
@@ -57,7 +58,7 @@ pub shown_follows : (hub : Beginning) (seated : Bool) (seat : Option ℕ) (turns
 shown_follows hub seated seat [] shown = follows_self hub
 shown_follows hub seated seat (Piece piece ∷ earlier) shown =
     shown_follows hub seated seat earlier shown
-shown_follows hub seated seat (Beat ∷ earlier) shown =
+shown_follows hub seated seat (Send signal ∷ earlier) shown =
     shown_follows hub seated seat earlier shown
 shown_follows hub seated seat (Say count ∷ earlier) shown =
     shown_follows hub seated seat earlier shown
@@ -67,21 +68,23 @@ shown_follows hub seated seat (Tell telling ∷ earlier) shown =
 
 -- ---- what is kept of what was told
 
-beat_kept : (hub : Beginning) (seated : Bool) (turns : List Turn) (pushing : Option Pushing)
-    → TellsOn hub seated turns pushing → TellsOn hub seated (Beat ∷ turns) pushing
-beat_kept hub seated turns None tells = tt
-beat_kept hub seated turns (Some pushing) tells = record {
+signal_kept : (hub : Beginning) (seated : Bool) (turns : List Turn) (signal : Signal)
+    (pushing : Option Pushing) → TellsOn hub seated turns pushing
+    → TellsOn hub seated (Send signal ∷ turns) pushing
+signal_kept hub seated turns signal None tells = tt
+signal_kept hub seated turns signal (Some pushing) tells = record {
   tables = tells.tables;
   teller = tells.teller;
   unsaid = tells.unsaid;
   sees = tells.sees;
 }
 
--- a heartbeat tells nothing
-pub tells_beat : (hub : Beginning) (seated : Bool) (turns : List Turn) (old new : Option Pushing)
-    → new ≡ old → TellsOn hub seated turns old → TellsOn hub seated (Beat ∷ turns) new
-tells_beat hub seated turns old new same tells =
-    beat_kept hub seated turns new (subst (TellsOn hub seated turns) (sym same) tells)
+-- a signal tells nothing
+pub tells_signal : (hub : Beginning) (seated : Bool) (turns : List Turn) (signal : Signal)
+    (old new : Option Pushing) → new ≡ old → TellsOn hub seated turns old
+    → TellsOn hub seated (Send signal ∷ turns) new
+tells_signal hub seated turns signal old new same tells =
+    signal_kept hub seated turns signal new (subst (TellsOn hub seated turns) (sym same) tells)
 
 piece_kept : (hub : Beginning) (seated : Bool) (turns : List Turn) (piece : List ℕ) (asks : Bool)
     (pushing : Option Pushing)
@@ -250,7 +253,7 @@ WasPut table turns key put =
 later_put : (table : Pushed) (turn : Turn) (turns : List Turn)
     → ((key : List ℕ) (put : ℕ) → WasPut table turns key put → WasPut table (turn ∷ turns) key put)
 later_put table (Piece piece) turns key put was = was
-later_put table Beat turns key put was = was
+later_put table (Send signal) turns key put was = was
 later_put table (Say count) turns key put was = was
 later_put table (Tell telling) turns key put was = inr was
 
@@ -266,7 +269,7 @@ marked_in : (setup : Setup) (seated : Bool) (pushed : List Pushed) (turns : List
     (place : ℕ) (table : Pushed) → slice_get pushed place ≡ Some table
     → AllMarks (WasPut table turns) (table_at (told_in setup seated pushed turns) place).marks
 marked_in setup seated pushed [] place table is = tt
-marked_in setup seated pushed (Beat ∷ turns) place table is =
+marked_in setup seated pushed (Send signal ∷ turns) place table is =
     marked_in setup seated pushed turns place table is
 marked_in setup seated pushed (Say count ∷ turns) place table is =
     marked_in setup seated pushed turns place table is
@@ -309,7 +312,7 @@ stood_in : (table : Pushed) (key : List ℕ) (now put : ℕ) (turns : List Turn)
 stood_in table key now put [] lives told was = was
 stood_in table key now put (Piece piece ∷ turns) lives told was =
     stood_in table key now put turns lives told was
-stood_in table key now put (Beat ∷ turns) lives told was =
+stood_in table key now put (Send signal ∷ turns) lives told was =
     stood_in table key now put turns lives told was
 stood_in table key now put (Say count ∷ turns) lives told was =
     stood_in table key now put turns lives told was

@@ -28,13 +28,15 @@ use Rattle.serve.specs.declared.served.Served.{Served}
 use Rattle.serve.specs.declared.worker.Worker.{Worker}
 use Rattle.std.specs.Io.KnownBytes.{Appends, Keeps}
 use Rattle.serve.specs.Faults.{cause_of_turn, turn_fault_of}
-use Rattle.serve.proofs.Tellings.{shown_at, tells_beat, tells_piece}
+use Rattle.serve.proofs.Tellings.{shown_at, tells_piece, tells_signal}
 use Rattle.serve.specs.Tellings.{AreTellings, TellsOn, asked_pushing}
 use Rattle.serve.specs.Told.{stored_of}
 use Rattle.serve.specs.Traffic.{Advances, Traffic, so_far}
+use Rattle.serve.specs.declared.waiting.Signal.{Signal}
 use Rattle.serve.specs.Turns.{PosterTells, EndsBy, EndsBySession, IsPosterOf, IsAnswered, IsRefused}
-use Rattle.serve.specs.Turns.{SeatIsServed, WroteFront, answer_at, answers_in, facts_in, heartbeat}
-use Rattle.serve.specs.Turns.{Beat, Piece, Turn, said_beyond, seat_at, taken_in}
+use Rattle.serve.specs.Turns.{SeatIsServed, WroteFront, answer_at, answers_in, facts_in}
+use Rattle.serve.specs.Turns.{Piece, Send, Turn, WroteSignal, said_beyond, seat_at, taken_in}
+use Rattle.serve.specs.Turns.{text_of_signal}
 use Rattle.session_core.specs.Asking.{asks_all}
 use Rattle.serve.specs.Working.{EndsFor, EndsTo, IsAtWork, IsServedUntil, IsServedWhole}
 use Rattle.serve.specs.Working.{SettlesThen, SettlesTo, Stops, Works, WorksOn}
@@ -314,11 +316,11 @@ unsettled A hub seated old new start given after taken more piece batch end answ
     says_beyond setup (talk setup seated (taken_in w.turns))
     (talk setup seated (taken_in w.turns ++ piece)) batch stands.grows in record {
       bytes = taken_in w.turns ++ piece;
-      written = answers_in setup seated w.turns ++ settles.1.front;
+      written = answers_in setup seated w.turns ++ settles.1.front.front;
       carried = record {
         gave = wrote_more start.given given after (taken_in w.turns) piece w.carried.gave gives;
-        took = wrote_more start.taken taken more (answers_in setup seated w.turns) settles.1.front
-            w.carried.took settles.1.wrote;
+        took = wrote_more start.taken taken more (answers_in setup seated w.turns)
+            settles.1.front.front w.carried.took settles.1.front.wrote;
       };
       ends = inl (record {
         turns = w.turns;
@@ -361,7 +363,7 @@ unsettled A hub seated old new start given after taken more piece batch end
         answered = refl;
       };
     }
-unsettled A hub seated old new start given after taken more piece batch end answers.Beat gives
+unsettled A hub seated old new start given after taken more piece batch end answers.Signal gives
     w stands seat settles =
     let setup : Setup = setup_of hub.config in
     let count : length (talk setup seated (taken_in w.turns ++ piece)).facts - length
@@ -369,23 +371,24 @@ unsettled A hub seated old new start given after taken more piece batch end answ
     less_old (facts_in setup seated w.turns) batch.facts
     (talk setup seated (taken_in w.turns ++ piece)).facts stands.grows.facts in record {
       bytes = taken_in w.turns ++ piece;
-      written = answers_in setup seated w.turns ++ settles.1.front;
+      written = answers_in setup seated w.turns ++ settles.1.front.front;
       carried = record {
         gave = wrote_more start.given given after (taken_in w.turns) piece w.carried.gave gives;
-        took = wrote_more start.taken taken more (answers_in setup seated w.turns) settles.1.front
-            w.carried.took settles.1.wrote;
+        took = wrote_more start.taken taken more (answers_in setup seated w.turns)
+            settles.1.front.front w.carried.took settles.1.front.wrote;
       };
       ends = inr (record {
         turns = w.turns;
         shown = shown_at hub seated old.poster new.poster w.turns seat w.work.shown;
         piece = piece;
-        front = settles.1.front;
-        rest = settles.1.rest;
+        front = settles.1.front.front;
+        rest = settles.1.front.rest;
         goes_on = w.work.goes_on;
         read = refl;
         told = subst (λ n. PosterTells hub new.poster (facts_in setup seated w.turns) n) (sym count)
             settles.0;
-        beat = settles.1.split;
+        signal = settles.1.signal;
+        cut = settles.1.front.split;
         answered = refl;
       });
     }
@@ -562,16 +565,17 @@ served_until hub seated worker start now seat faulted same sits f s =
           s.bytes s.written faulted.cause f s.ends));
     }
 
--- a heartbeat is sent
-pub beaten : (hub : Beginning) (seated : Bool) (old new : Worker)
+-- a signal is sent
+pub signalled : (hub : Beginning) (seated : Bool) (old new : Worker) (signal : Signal)
     (start : Traffic) (given taken more : Option (List ℕ))
     → new.session.seated ≡ old.session.seated → new.session.stage ≡ old.session.stage
     → new.poster ≡ old.poster → new.pushing ≡ old.pushing
-    → Works hub seated old start (so_far given taken) → Appends taken more heartbeat
+    → Works hub seated old start (so_far given taken)
+    → Appends taken more (text_of_signal signal)
     → Works hub seated new start (so_far given more)
-beaten hub seated old new start given taken more same stage poster pushing w sends =
+signalled hub seated old new signal start given taken more same stage poster pushing w sends =
     let setup : Setup = setup_of hub.config in record {
-      turns = Beat ∷ w.turns;
+      turns = Send signal ∷ w.turns;
       work = record {
         has_seat = same ∙ w.work.has_seat;
         stands = stage ∙ w.work.stands;
@@ -579,40 +583,41 @@ beaten hub seated old new start given taken more same stage poster pushing w sen
         told = subst (λ d. PosterTells hub d (facts_in setup seated w.turns) 0)
             (sym poster) w.work.told;
         shown = shown_at hub seated old.poster new.poster w.turns (ap seat_at poster) w.work.shown;
-        tells = tells_beat hub seated w.turns old.pushing new.pushing pushing w.work.tells;
+        tells = tells_signal hub seated w.turns signal old.pushing new.pushing pushing
+            w.work.tells;
       };
       carried = record {
         gave = w.carried.gave;
         took = wrote_more start.taken taken more (answers_in setup seated w.turns)
-            heartbeat w.carried.took sends;
+            (text_of_signal signal) w.carried.took sends;
       };
     }
 
--- a heartbeat couldn't be sent
-pub unbeaten : (hub : Beginning) (seated : Bool) (old new : Worker)
+-- a signal couldn't be sent
+pub unsignalled : (hub : Beginning) (seated : Bool) (old new : Worker)
     (start : Traffic) (given taken more : Option (List ℕ)) → new.poster ≡ old.poster
-    → Works hub seated old start (so_far given taken) → WroteFront taken more heartbeat
+    → Works hub seated old start (so_far given taken) → WroteSignal taken more
     → Stops hub seated new start (so_far given more) Write
-unbeaten hub seated old new start given taken more poster w sends =
+unsignalled hub seated old new start given taken more poster w sends =
     let setup : Setup = setup_of hub.config in record {
       bytes = taken_in w.turns;
-      written = answers_in setup seated w.turns ++ sends.front;
+      written = answers_in setup seated w.turns ++ sends.front.front;
       carried = record {
         gave = w.carried.gave;
-        took = wrote_more start.taken taken more (answers_in setup seated w.turns) sends.front
-            w.carried.took sends.wrote;
+        took = wrote_more start.taken taken more (answers_in setup seated w.turns)
+            sends.front.front w.carried.took sends.front.wrote;
       };
       ends = inl (record {
         turns = w.turns;
         shown = shown_at hub seated old.poster new.poster w.turns (ap seat_at poster) w.work.shown;
-        last = Beat;
-        front = sends.front;
-        rest = sends.rest;
+        last = Send sends.signal;
+        front = sends.front.front;
+        rest = sends.front.rest;
         goes_on = w.work.goes_on;
         read = refl;
         told = subst (λ d. PosterTells hub d (facts_in setup seated w.turns) 0)
             (sym poster) w.work.told;
-        answer = sends.split;
+        answer = sends.front.split;
         answered = refl;
       });
     }

@@ -11,7 +11,7 @@ use Rattle.serve.specs.declared.served.Cause.TheVariants as causes
 abbrev pub turn_fault_of : AnswerFault → TurnFault
 turn_fault_of answers.Write = turns.Write
 turn_fault_of (answers.Post refusal) = turns.Post refusal
-turn_fault_of answers.Beat = turns.Write
+turn_fault_of answers.Signal = turns.Write
 
 abbrev pub cause_of_turn : TurnFault → Cause
 cause_of_turn turns.Write = causes.Write

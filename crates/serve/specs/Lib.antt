@@ -14,3 +14,4 @@ pub mod Commands
 pub mod Commanding
 pub mod Parting
 pub mod Silent
+pub mod Asking

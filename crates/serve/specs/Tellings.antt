@@ -12,7 +12,7 @@ use Rattle.serve.specs.declared.faults.WriteFailed.{WriteFailed}
 use Rattle.serve.specs.declared.poster.Poster.{Poster}
 use Rattle.serve.specs.Knowing.{Pushing}
 use Rattle.serve.specs.Commands.{ShowsTold}
-use Rattle.serve.specs.Turns.{Telling, Turn, Piece, Beat, Tell, Say, Sends, asked_if, facts_in}
+use Rattle.serve.specs.Turns.{Telling, Turn, Piece, Send, Tell, Say, Sends, asked_if, facts_in}
 use Rattle.serve.specs.Turns.{pushed_in, set_named, sets_in, told_in, unsaid_in}
 use Rattle.telling.specs.Among.{IsAmong}
 use Rattle.telling.specs.Pushes.{pushed_of}
@@ -25,7 +25,7 @@ use Rattle.telling.specs.declared.pushed.Pushed.{Pushed}
 abbrev pub shown_by : Beginning → List Turn → Beginning
 shown_by hub [] = hub
 shown_by hub (Piece piece ∷ earlier) = shown_by hub earlier
-shown_by hub (Beat ∷ earlier) = shown_by hub earlier
+shown_by hub (Send signal ∷ earlier) = shown_by hub earlier
 shown_by hub (Say count ∷ earlier) = shown_by hub earlier
 shown_by hub (Tell telling ∷ earlier) = telling.seen
 
@@ -38,7 +38,7 @@ ShowsPosted seat whats list =
 abbrev pub SomeTelling : (Telling → Type 0) → List Turn → Type 0
 SomeTelling Is [] = ⊥
 SomeTelling Is (Piece piece ∷ earlier) = SomeTelling Is earlier
-SomeTelling Is (Beat ∷ earlier) = SomeTelling Is earlier
+SomeTelling Is (Send signal ∷ earlier) = SomeTelling Is earlier
 SomeTelling Is (Say count ∷ earlier) = SomeTelling Is earlier
 SomeTelling Is (Tell telling ∷ earlier) = Is telling ⊎ SomeTelling Is earlier
 
@@ -86,7 +86,7 @@ pub record IsTelling (hub : Beginning) (seated : Bool) (seat : Option ℕ) (earl
 abbrev pub AreTellings : Beginning → Bool → Option ℕ → List Turn → Type 0
 AreTellings hub seated seat [] = ⊤
 AreTellings hub seated seat (Piece piece ∷ earlier) = AreTellings hub seated seat earlier
-AreTellings hub seated seat (Beat ∷ earlier) = AreTellings hub seated seat earlier
+AreTellings hub seated seat (Send signal ∷ earlier) = AreTellings hub seated seat earlier
 AreTellings hub seated seat (Say count ∷ earlier) = AreTellings hub seated seat earlier
 AreTellings hub seated seat (Tell telling ∷ earlier) =
     IsTelling hub seated seat earlier telling × AreTellings hub seated seat earlier

@@ -20,6 +20,8 @@ use Rattle.serve.specs.declared.faults.WriteFailed.{WriteFailed}
 use Rattle.serve.specs.declared.served.Cause.{Cause}
 use Rattle.serve.specs.declared.served.Cause.TheVariants.{Read, Write, Session, Post, Look}
 use Rattle.serve.specs.declared.served.Served.{Served}
+use Rattle.serve.specs.declared.waiting.Signal.{Signal}
+use Rattle.serve.specs.declared.waiting.Signal.TheVariants.{Heartbeat, Request}
 use Rattle.serve.specs.Told.{HasTold, IsServed, stored_of}
 use Rattle.session_core.specs.Asking.{asks_all}
 use Rattle.telling.specs.Pushes.{pushed_of}
@@ -32,21 +34,23 @@ pub record Telling : Type 0 where
   pub seen : Beginning
   pub book : State
 
--- a piece was taken, a heartbeat was sent, a telling of the pushed tables was made, or so many
+-- a piece was taken, a signal was sent, a telling of the pushed tables was made, or so many
 -- messages more of what it says were written
 pub data Turn : Type 0 where
   Piece : List ℕ → Turn
-  Beat : Turn
+  Send : Signal → Turn
   Tell : Telling → Turn
   Say : ℕ → Turn
 
-abbrev pub heartbeat : List ℕ
-heartbeat = kinds.control_class ∷ kinds.heartbeat ∷ []
+-- what a signal is: a heartbeat, or a resync request
+abbrev pub text_of_signal : Signal → List ℕ
+text_of_signal Heartbeat = kinds.control_class ∷ kinds.heartbeat ∷ []
+text_of_signal Request = kinds.control_class ∷ kinds.resync_request ∷ []
 
 -- the bytes taken in these turns, of which the newest is first
 abbrev pub taken_in : List Turn → List ℕ
 taken_in [] = []
-taken_in (Beat ∷ earlier) = taken_in earlier
+taken_in (Send signal ∷ earlier) = taken_in earlier
 taken_in (Tell telling ∷ earlier) = taken_in earlier
 taken_in (Say count ∷ earlier) = taken_in earlier
 taken_in (Piece piece ∷ earlier) = taken_in earlier ++ piece
@@ -78,7 +82,7 @@ asked_if asks told = if asks then asked told else told
 -- anew
 abbrev pub told_in : Setup → Bool → List Pushed → List Turn → Memory
 told_in setup seated pushed [] = untold
-told_in setup seated pushed (Beat ∷ earlier) = told_in setup seated pushed earlier
+told_in setup seated pushed (Send signal ∷ earlier) = told_in setup seated pushed earlier
 told_in setup seated pushed (Say count ∷ earlier) = told_in setup seated pushed earlier
 told_in setup seated pushed (Tell telling ∷ earlier) =
     told_after pushed (sets_in pushed telling.book) telling.book.moment
@@ -93,7 +97,7 @@ told_in setup seated pushed (Piece piece ∷ earlier) =
 abbrev pub unsaid_in : Setup → Bool → List Turn → List Message
 unsaid_in setup seated [] = []
 unsaid_in setup seated (Piece piece ∷ earlier) = unsaid_in setup seated earlier
-unsaid_in setup seated (Beat ∷ earlier) = unsaid_in setup seated earlier
+unsaid_in setup seated (Send signal ∷ earlier) = unsaid_in setup seated earlier
 unsaid_in setup seated (Tell telling ∷ earlier) =
     turn_messages (pushed_in telling) (sets_in (pushed_in telling) telling.book)
     telling.book.moment (told_in setup seated (pushed_in telling) earlier)
@@ -102,7 +106,7 @@ unsaid_in setup seated (Say count ∷ earlier) = drop count (unsaid_in setup sea
 -- what answers a turn behind those before it: of what a telling says, whole messages are written
 -- at a time
 abbrev pub answer_at : Setup → Bool → List Turn → Turn → List ℕ
-answer_at setup seated earlier Beat = heartbeat
+answer_at setup seated earlier (Send signal) = text_of_signal signal
 answer_at setup seated earlier (Tell telling) = []
 answer_at setup seated earlier (Say count) = text_of (take count (unsaid_in setup seated earlier))
 answer_at setup seated earlier (Piece piece) =
@@ -119,7 +123,7 @@ answers_in setup seated (turn ∷ earlier) =
 abbrev pub said_in : Setup → Bool → List Turn → List ℕ
 said_in setup seated [] = []
 said_in setup seated (Piece piece ∷ earlier) = said_in setup seated earlier
-said_in setup seated (Beat ∷ earlier) = said_in setup seated earlier
+said_in setup seated (Send signal ∷ earlier) = said_in setup seated earlier
 said_in setup seated (Tell telling ∷ earlier) = []
 said_in setup seated (Say count ∷ earlier) =
     said_in setup seated earlier ++ answer_at setup seated earlier (Say count)
@@ -128,7 +132,7 @@ said_in setup seated (Say count ∷ earlier) =
 abbrev pub text_in : Setup → Bool → List Turn → List ℕ
 text_in setup seated [] = []
 text_in setup seated (Piece piece ∷ earlier) = text_in setup seated earlier
-text_in setup seated (Beat ∷ earlier) = text_in setup seated earlier
+text_in setup seated (Send signal ∷ earlier) = text_in setup seated earlier
 text_in setup seated (Tell telling ∷ earlier) =
     turn_text (pushed_in telling) (sets_in (pushed_in telling) telling.book) telling.book.moment
     (told_in setup seated (pushed_in telling) earlier)
@@ -167,7 +171,7 @@ pub record IsCutShort (setup : Setup) (seated : Bool) (Shown : List Turn → Typ
   pub answer : answer_at setup seated turns last ≡ front ++ rest
   pub answered : written ≡ answers_in setup seated turns ++ front
 
--- The same, but only a beginning of a heartbeat was written, while a last piece waited: its facts
+-- The same, but only a beginning of a signal was written, while a last piece waited: its facts
 -- are stored and not shown yet.
 pub record IsCutWaiting (setup : Setup) (seated : Bool) (Shown : List Turn → Type 0)
     (Told : List What → ℕ → Type 0) (bytes written : List ℕ) : Type 0 where
@@ -180,7 +184,8 @@ pub record IsCutWaiting (setup : Setup) (seated : Bool) (Shown : List Turn → T
   pub read : bytes ≡ taken_in turns ++ piece
   pub told : Told (facts_in setup seated turns)
       (length (talk setup seated bytes).facts - length (facts_in setup seated turns))
-  pub beat : heartbeat ≡ front ++ rest
+  pub signal : Signal
+  pub cut : text_of_signal signal ≡ front ++ rest
   pub answered : written ≡ answers_in setup seated turns ++ front
 
 -- the same, but of a last piece nothing was told nor answered; so many of its facts are stored all
@@ -250,6 +255,11 @@ pub record WroteFront (before after : Option (List ℕ)) (bytes : List ℕ) : Ty
   pub rest : List ℕ
   pub split : bytes ≡ front ++ rest
   pub wrote : Appends before after front
+
+-- some beginning of a signal was written
+pub record WroteSignal (before after : Option (List ℕ)) : Type 0 where
+  pub signal : Signal
+  pub front : WroteFront before after (text_of_signal signal)
 
 -- all of the bytes were written, or a beginning of them where a write failed
 abbrev pub Sends : {A : Type 0} → Option (List ℕ) → Option (List ℕ) → List ℕ

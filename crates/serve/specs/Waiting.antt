@@ -5,24 +5,24 @@ use Rattle.hub.specs.declared.faults.PostFault.TheVariants.{Pending}
 use Rattle.hub.specs.History.{Beginning}
 use Rattle.serve.specs.declared.poster.Poster.{Poster}
 use Rattle.serve.specs.declared.faults.AnswerFault.{AnswerFault}
-use Rattle.serve.specs.declared.faults.AnswerFault.TheVariants.{Write, Post, Beat}
+use Rattle.serve.specs.declared.faults.AnswerFault.TheVariants.{Write, Post, Signal}
 use Rattle.serve.specs.declared.worker.Worker.{Worker}
 use Rattle.serve.specs.Told.{stored_of}
 use Rattle.serve.specs.Traffic.{Traffic, so_far}
-use Rattle.serve.specs.Turns.{PosterTells, WroteFront, heartbeat}
+use Rattle.serve.specs.Turns.{PosterTells, WroteSignal}
 use Rattle.serve.specs.Working.{Works}
 
--- what was written leaves a session at work as it was: it is whole heartbeats, or nothing
-abbrev pub Beats : Option (List ℕ) → Option (List ℕ) → Type 0
-Beats before after =
+-- what was written leaves a session at work as it was: it is whole signals, or nothing
+abbrev pub Signals : Option (List ℕ) → Option (List ℕ) → Type 0
+Signals before after =
     (hub : Beginning) (seated : Bool) (worker : Worker) (start : Traffic)
     (given : Option (List ℕ)) → Works hub seated worker start (so_far given before)
     → Works hub seated worker start (so_far given after)
 
--- whole heartbeats are written, and then something that goes on from there
-pub record BeatsThen (before : Option (List ℕ)) (GoesOn : Option (List ℕ) → Type 0) : Type 0 where
+-- whole signals are written, and then something that goes on from there
+pub record SignalsThen (before : Option (List ℕ)) (GoesOn : Option (List ℕ) → Type 0) : Type 0 where
   pub written : Option (List ℕ)
-  pub beats : Beats before written
+  pub signals : Signals before written
   pub goes_on : GoesOn written
 
 -- how waiting for a ticket ends, behind what was written by then
@@ -31,9 +31,9 @@ abbrev pub AwaitsTo : Beginning → Option (List ℕ) → Result Beginning Answe
 AwaitsTo ticket after (Ok receipt) written = (receipt ≡ ticket) × (after ≡ written)
 AwaitsTo ticket after (Err Write) written = ⊥
 AwaitsTo ticket after (Err (Post fault)) written = (fault ≡ Pending) × (after ≡ written)
-AwaitsTo ticket after (Err Beat) written = WroteFront written after heartbeat
+AwaitsTo ticket after (Err Signal) written = WroteSignal written after
 
--- a batch is told behind what was told before it, or refused; where a heartbeat couldn't be
+-- a batch is told behind what was told before it, or refused; where a signal couldn't be
 -- written, it is stored and not shown yet
 abbrev pub PostsTo : {A : Type 0} → Beginning → Option Poster → List What → List What
     → Option (List ℕ) → Result A AnswerFault → Option (List ℕ) → Type 0
@@ -42,5 +42,5 @@ PostsTo hub poster whats batch after (Ok done) written =
 PostsTo hub poster whats batch after (Err Write) written = ⊥
 PostsTo hub poster whats batch after (Err (Post fault)) written =
     PosterTells hub poster whats (stored_of fault (length batch)) × (after ≡ written)
-PostsTo hub poster whats batch after (Err Beat) written =
-    PosterTells hub poster whats (length batch) × WroteFront written after heartbeat
+PostsTo hub poster whats batch after (Err Signal) written =
+    PosterTells hub poster whats (length batch) × WroteSignal written after

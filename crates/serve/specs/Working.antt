@@ -12,7 +12,7 @@ use Rattle.session_core.specs.Talk.{stage_of}
 use Rattle.hub.specs.History.{Beginning}
 use Rattle.serve.specs.declared.poster.Poster.{Poster}
 use Rattle.serve.specs.declared.faults.AnswerFault.{AnswerFault}
-use Rattle.serve.specs.declared.faults.AnswerFault.TheVariants.{Write, Post, Beat}
+use Rattle.serve.specs.declared.faults.AnswerFault.TheVariants.{Write, Post, Signal}
 use Rattle.serve.specs.declared.faults.TurnFault.{TurnFault}
 use Rattle.serve.specs.declared.served.Cause.{Cause}
 use Rattle.serve.specs.declared.served.Faulted.{Faulted}
@@ -24,7 +24,7 @@ use Rattle.serve.specs.Tellings.{AreTellings, TellsOn}
 use Rattle.serve.specs.Told.{stored_of}
 use Rattle.serve.specs.Traffic.{Advances, Traffic, so_far}
 use Rattle.serve.specs.Turns.{PosterTells, EndsBy, IsAnswered, SeatIsServed, Turn}
-use Rattle.serve.specs.Turns.{TalkEnds, WroteFront, answers_in, facts_in, heartbeat}
+use Rattle.serve.specs.Turns.{TalkEnds, WroteFront, WroteSignal, answers_in, facts_in}
 use Rattle.serve.specs.Turns.{seat_at, taken_in}
 
 -- it stands for the bytes taken in these turns, whose talk goes on, and their facts were told
@@ -86,7 +86,7 @@ Takes hub old new piece before after result =
     → GoesOn hub seated new start (so_far more after) result
 
 -- The facts of a batch are told, and then its bytes written; where they are refused, nothing is.
--- Where a heartbeat couldn't be written meanwhile, they are stored and not shown yet.
+-- Where a signal couldn't be written meanwhile, they are stored and not shown yet.
 abbrev pub SettlesTo : {A : Type 0} → Beginning → Option Poster → List What → Batched
     → Option (List ℕ) → Option (List ℕ) → Result A AnswerFault → Type 0
 SettlesTo hub poster whats batch before after (Ok done) =
@@ -97,8 +97,8 @@ SettlesTo hub poster whats batch before after (Err Write) =
     × WroteFront before after (batch.replies ++ batch.acks)
 SettlesTo hub poster whats batch before after (Err (Post fault)) =
     PosterTells hub poster whats (stored_of fault (length batch.facts)) × Appends before after []
-SettlesTo hub poster whats batch before after (Err Beat) =
-    PosterTells hub poster whats (length batch.facts) × WroteFront before after heartbeat
+SettlesTo hub poster whats batch before after (Err Signal) =
+    PosterTells hub poster whats (length batch.facts) × WroteSignal before after
 
 -- out of memory, nothing is posted nor written
 pub record EndsForMemory (old new : Option Poster) (before after : Option (List ℕ))

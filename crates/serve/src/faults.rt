@@ -17,8 +17,8 @@ pub enum AnswerFault {
     Write,
     /// The post was refused.
     Post(PostFault),
-    /// A write of a heartbeat failed, while the batch waited for its list to be shown.
-    Beat,
+    /// A write of a signal failed, while the batch waited for its list to be shown.
+    Signal,
 }
 
 impl From<PostFault> for AnswerFault {
@@ -72,7 +72,7 @@ impl From<AnswerFault> for TurnFault {
         match unanswered {
             AnswerFault::Write => TurnFault::Write,
             AnswerFault::Post(refusal) => TurnFault::Post(refusal),
-            AnswerFault::Beat => TurnFault::Write,
+            AnswerFault::Signal => TurnFault::Write,
         }
     }
 }

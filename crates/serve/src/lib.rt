@@ -18,6 +18,7 @@
 
 mod admin;
 mod answering;
+mod asking;
 mod attending;
 mod clock;
 mod context;

@@ -1,13 +1,18 @@
-//! The tables that a peer's stream defines, whether they are followed or not.
+//! The tables that a peer's stream defines, whether they are followed or not, and what the peer
+//! answers resync requests.
 //!
 //! The session keeps of a stream what it follows. This goes over the heads of the same messages
 //! beside it, and reads definitions alone, so that an operator can be told why a table isn't
-//! followed. Nothing of the session stands on it, and no clause says what it finds.
+//! followed. By the answers it is known when to ask again. No clause says what it finds.
 
+use crate::asking::Answer;
 use crate::gate::{Gate, News, Place};
 use crate::lines::split_line;
 use agg_types::limits::LONGEST_PAYLOAD;
-use peers_msg::kinds::{FIRST_WITH_PAYLOAD, TABLE_CLASS, TABLE_DEFINITION};
+use peers_msg::kinds::{
+    CONTROL_CLASS, FIRST_WITH_PAYLOAD, RESYNC_FINISHED, RESYNC_PARTIAL, TABLE_CLASS,
+    TABLE_DEFINITION,
+};
 use peers_msg::{Definition, Feed, Message, get_int};
 use std::alloc::Global;
 use std::collections::VecDeque;
@@ -36,11 +41,13 @@ enum At {
     Over,
 }
 
-/// A stream, and the definitions that weren't told yet.
+/// A stream, what wasn't taken yet of the answers to resync requests, and the definitions that
+/// weren't told yet.
 #[derive(Drop)]
 pub struct Scout {
     at: At,
     kept: Vec<u8>,
+    answer: Option<Answer>,
     found: VecDeque<Definition>,
     alloc: Global,
 }
@@ -56,11 +63,23 @@ fn behind(bytes: &[u8], count: u64) -> &[u8] {
     }
 }
 
-// What stands behind the first message, where it is whole and no definition.
+// What the head of a message answers a resync request, if it does.
+fn answer_in(class: u8, kind: u8) -> Option<Answer> {
+    match (class, kind) {
+        (CONTROL_CLASS, RESYNC_FINISHED) => Some(Answer::Finished),
+        (CONTROL_CLASS, RESYNC_PARTIAL) => Some(Answer::Partial),
+        _ => None,
+    }
+}
+
+// What stands behind the first message, where it is whole, no definition and no answer.
 fn behind_whole(bytes: &[u8]) -> Option<&[u8]> {
     let [class, kind, rest @ ..] = bytes else {
         return None;
     };
+    if answer_in(*class, *kind).is_some() {
+        return None;
+    }
     if *kind < FIRST_WITH_PAYLOAD {
         return Some(rest);
     }
@@ -82,6 +101,7 @@ impl Scout {
         Scout {
             at: At::Hello(HELLO_LINES),
             kept: Vec::new(alloc),
+            answer: None,
             found: VecDeque::new(alloc),
             alloc,
         }
@@ -150,6 +170,7 @@ impl Scout {
             return At::Head;
         };
         let is_definition = (*class, *kind) == DEFINITION;
+        let answer = answer_in(*class, *kind);
         let len = if *kind < FIRST_WITH_PAYLOAD {
             0
         } else {
@@ -163,7 +184,21 @@ impl Scout {
             return At::Kept(len);
         }
         self.kept.clear();
+        self.hear(answer);
         if len > 0 { At::Skipped(len) } else { At::Head }
+    }
+
+    // Hears what a message answers a resync request, if it does. Of several answers that weren't
+    // taken yet the last counts, and finished before all.
+    fn hear(&mut self, answer: Option<Answer>) {
+        if answer.is_some() && self.answer != Some(Answer::Finished) {
+            self.answer = answer;
+        }
+    }
+
+    /// Takes what was heard of the answers to resync requests since it was taken last.
+    pub fn take_answer(&mut self) -> Option<Answer> {
+        self.answer.take()
     }
 
     // Keeps what came of a definition, and reads it once it is whole.

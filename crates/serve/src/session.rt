@@ -50,8 +50,9 @@ impl<'a, J: Naming, H: Wait + Drop, R: Wait + std::rt::Clock, C: Clock, G: Gate>
     /// Serves one connection of a peer, with a pass that has posted nothing, or without a seat.
     ///
     /// It reads a piece, posts its facts, and then writes its replies and acknowledgements, those
-    /// of a fault too. After each read it asks whether a heartbeat is due or the peer was silent
-    /// for too long. So an acknowledgement is written only where the facts before it were posted.
+    /// of a fault too. After each read it asks whether a heartbeat or a further resync request is
+    /// due, or the peer was silent for too long. So an acknowledgement is written only where the
+    /// facts before it were posted.
     ///
     /// Where tables are pushed it has a lens of its own, and after each read looks whether
     /// something is to be told of them, at most every 50 ms. Where no lens or look is to be had, or

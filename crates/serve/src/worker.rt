@@ -20,7 +20,7 @@ use crate::pushing::Pushing;
 use crate::scout::Scout;
 use crate::served::Cause;
 use crate::source::{Came, Source, buffer};
-use crate::waiting::{HEARTBEAT, Pulse};
+use crate::waiting::Pulse;
 use crate::writing::{front, send};
 use agg_types::Whats;
 use hub::{Naming, Pass};
@@ -123,8 +123,9 @@ impl Worker {
         }
     }
 
-    // Keeps what it hears of a hello, and finds the tables that are defined.
-    fn listen(&mut self, piece: &[u8])
+    // Keeps what it hears of a hello, finds the tables that are defined, and hears what its resync
+    // requests are answered.
+    fn listen(&mut self, piece: &[u8], now: u64)
         ensures session { self.new.session ≡ self.old.session }
         ensures poster { self.new.poster ≡ self.old.poster }
         ensures pushing { self.new.pushing ≡ self.old.pushing }
@@ -133,6 +134,9 @@ impl Worker {
             self.hello.add(piece);
         }
         self.scout.read_piece(piece);
+        if let Some(answer) = self.scout.take_answer() {
+            self.pulse.hear(answer, now);
+        }
     }
 
     // Tells that a peer's hello was accepted, once, and what was posted and defined since it told.
@@ -204,7 +208,7 @@ impl Worker {
         }
     }
 
-    /// Sends a heartbeat where one is due, and ends a session that was silent for too long.
+    /// Sends the signal that is due, and ends a session that was silent for too long.
     pub fn pause<W: Write>(&mut self, writer: &mut W, now: u64) -> Result<(), TurnFault>
         ensures seat { seat_at self.new.poster ≡ seat_at self.old.poster }
         ensures takes { (hub : Beginning) → Takes hub self.old self.new [] (W.contents writer.old)
@@ -213,12 +217,7 @@ impl Worker {
             → HearsAt now self.old.session self.new.session result }
     {
         match self.session.idle(now) {
-            Idle::Nothing => Ok(()),
-            Idle::Beat => {
-                send(writer, &HEARTBEAT)?;
-                self.pulse.wrote(HEARTBEAT.len(), now);
-                Ok(())
-            }
+            Idle::Nothing | Idle::Beat => Ok(self.pulse.signal(writer, now)?),
             Idle::Ended => Err(TurnFault::Session(SessionCause::TimedOut)),
         }
     }
@@ -235,7 +234,7 @@ impl<'a, J: Naming, H: Wait + Drop, R: Wait + std::rt::Clock, C: Clock, G: Gate>
     ghost use Rattle.serve.specs.Silent.{HearsAt, HearsOn, HearsUntil, IsHeard};
     ghost use Rattle.serve.specs.Traffic.{Traffic, so_far};
     ghost use Rattle.serve.specs.Turns.{PosterTells, IsPosterOf, Turn, seat_at};
-    ghost use Rattle.serve.specs.Waiting.{BeatsThen, PostsTo};
+    ghost use Rattle.serve.specs.Waiting.{SignalsThen, PostsTo};
     ghost use Rattle.serve.specs.Working.{EndsTo, IsAtWork, SettlesTo, Takes, Works, WorksOn};
 
     // Posts facts, if there are any and the session has a seat, and waits until they are shown.
@@ -250,7 +249,7 @@ impl<'a, J: Naming, H: Wait + Drop, R: Wait + std::rt::Clock, C: Clock, G: Gate>
         ensures session { worker.new.session ≡ worker.old.session }
         ensures pushing { worker.new.pushing ≡ worker.old.pushing }
         ensures seat { seat_at worker.new.poster ≡ seat_at worker.old.poster }
-        ensures told { BeatsThen (W.contents writer.old) (λ written. (whats : List What)
+        ensures told { SignalsThen (W.contents writer.old) (λ written. (whats : List What)
             → PosterTells self.now.hub.now worker.old.poster whats 0
             → PostsTo self.now.hub.now worker.new.poster whats facts
             (W.contents writer.new) result written) }
@@ -282,7 +281,7 @@ impl<'a, J: Naming, H: Wait + Drop, R: Wait + std::rt::Clock, C: Clock, G: Gate>
         ensures session { worker.new.session ≡ worker.old.session }
         ensures pushing { worker.new.pushing ≡ worker.old.pushing }
         ensures seat { seat_at worker.new.poster ≡ seat_at worker.old.poster }
-        ensures told { BeatsThen (W.contents writer.old) (λ written. (whats : List What)
+        ensures told { SignalsThen (W.contents writer.old) (λ written. (whats : List What)
             → PosterTells self.now.hub.now worker.old.poster whats 0
             → SettlesTo self.now.hub.now worker.new.poster whats batch written
             (W.contents writer.new) result) }
@@ -307,7 +306,7 @@ impl<'a, J: Naming, H: Wait + Drop, R: Wait + std::rt::Clock, C: Clock, G: Gate>
         ensures session { worker.new.session ≡ worker.old.session }
         ensures pushing { worker.new.pushing ≡ worker.old.pushing }
         ensures seat { seat_at worker.new.poster ≡ seat_at worker.old.poster }
-        ensures ends { BeatsThen (W.contents writer.old) (λ written. (whats : List What)
+        ensures ends { SignalsThen (W.contents writer.old) (λ written. (whats : List What)
             → PosterTells self.now.hub.now worker.old.poster whats 0
             → EndsTo self.now.hub.now worker.old.poster worker.new.poster whats fault
             written (W.contents writer.new) result) }
@@ -370,8 +369,8 @@ impl<'a, J: Naming, H: Wait + Drop, R: Wait + std::rt::Clock, C: Clock, G: Gate>
             → HearsOn (C.gives self.now.clock.now) worker.new.session result }
     {
         self.gate.turn(worker.place());
-        worker.listen(piece);
         let now = self.clock.now();
+        worker.listen(piece, now);
         self.take_piece(worker, writer, piece, now)?;
         worker.greet(self.gate);
         self.attend(worker, writer, now)

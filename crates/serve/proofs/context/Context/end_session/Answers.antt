@@ -1,11 +1,11 @@
-use Rattle.serve.proofs.Pulses.{beats_none, ends_for_memory}
+use Rattle.serve.proofs.Pulses.{ends_for_memory, signals_none}
 use Rattle.serve.proofs.context.Context.end_session.Goals as goal
 
 pub returns-in-NoMemory-clause-ends : goal.returns-in-NoMemory-clause-ends
 returns-in-NoMemory-clause-ends g c =
     let before = g.W.Write.contents c.args.writer.now in record {
       written = before;
-      beats = beats_none before;
+      signals = signals_none before;
       goes_on = λ whats told. ends_for_memory c.args.self.now.hub.now c.args.worker.now.poster whats
           c.args.fault before c.in-NoMemory.is;
     }

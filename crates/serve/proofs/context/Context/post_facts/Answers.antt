@@ -1,6 +1,6 @@
 use Rattle.std.proofs.Common.{◌==◌, ap, refl, subst, ◌∙◌}
 use Rattle.std.proofs.lemmas.Result.{err_from_is_err_and}
-use Rattle.serve.proofs.Pulses.{beats_none, posts_empty, posts_nowhere, waits_for}
+use Rattle.serve.proofs.Pulses.{posts_empty, posts_nowhere, signals_none, waits_for}
 use Rattle.serve.specs.Turns.{PosterTells}
 use Rattle.serve.proofs.context.Context.post_facts.Goals as goal
 
@@ -8,7 +8,7 @@ pub returns-in_default-clause-told : goal.returns-in_default-clause-told
 returns-in_default-clause-told g c =
     let before = g.W.Write.contents c.args.writer.now in record {
       written = before;
-      beats = beats_none before;
+      signals = signals_none before;
       goes_on = λ whats told. posts_nowhere c.args.self.now.hub.now c.args.worker.now.poster whats
           c.args.facts before c.in_default.is;
     }
@@ -17,7 +17,7 @@ pub returns-then-is_empty-clause-told : goal.returns-then-is_empty-clause-told
 returns-then-is_empty-clause-told g c =
     let before = g.W.Write.contents c.args.writer.now in record {
       written = before;
-      beats = beats_none before;
+      signals = signals_none before;
       goes_on = λ whats told. (
         posts_empty c.args.self.now.hub.now c.in-Some.poster whats c.args.facts
             c.if-is_empty.ensures
@@ -31,7 +31,7 @@ returns-in_err-ticket-clause-told g c =
     let before = g.W.Write.contents c.args.writer.now in
     let p = err_from_is_err_and c.from_residual.result c.from_residual.ensures.1 in record {
       written = before;
-      beats = beats_none before;
+      signals = signals_none before;
       goes_on = λ whats told. rw (p.1, p.2) (
         c.in_err-ticket.ensures.appended whats
             (subst (λ d. PosterTells c.args.self.now.hub.now d whats 0) c.in-Some.is told),
@@ -43,7 +43,7 @@ pub returns-clause-told : goal.returns-clause-told
 returns-clause-told g c =
     let then = c.in_ok-receipt.ensures in record {
       written = then.written;
-      beats = then.beats;
+      signals = then.signals;
       goes_on = λ whats told. rw c.reuse.ensures (
         c.take_up.ensures.told c.args.self.now.hub.now whats c.args.facts
             (waits_for c.args.self.now.hub.now c.append.new.self whats c.args.facts

@@ -43,7 +43,7 @@ returns-in_ok-post_batch-in-Ok-clause-takes g c =
     let new = c.ask.new.self in
     let then = c.in_ok-post_batch-in-Ok.ensures.told in
     let w : Works hub seated c.args.worker.now start (so_far given then.written) =
-    then.beats hub seated c.args.worker.now start given at_first in
+    then.signals hub seated c.args.worker.now start given at_first in
     let stands : ContinuesTalk (setup_of hub.config) seated (taken_in w.turns) c.args.piece.now
     c.in-Ok.batch None c.feed.new.self.stage =
     stands_at c.config.result.now hub.config c.args.worker.now.session.seated seated
@@ -76,7 +76,7 @@ returns-in_err-post_batch-in-Ok-clause-takes g c =
     let new = c.post_batch.new.worker in
     let then = c.in_err-post_batch-in-Ok.ensures.told in
     let w : Works hub seated c.args.worker.now start (so_far given then.written) =
-    then.beats hub seated c.args.worker.now start given at_first in
+    then.signals hub seated c.args.worker.now start given at_first in
     let stands : ContinuesTalk (setup_of hub.config) seated (taken_in w.turns) c.args.piece.now
     c.in-Ok.batch None c.feed.new.self.stage =
     stands_at c.config.result.now hub.config c.args.worker.now.session.seated seated
@@ -101,7 +101,7 @@ returns-in_ok-cause-in-Err-clause-takes g c =
     let fault = c.in-Err.fault in
     let then = c.in_ok-cause-in-Err.ensures.ends in
     let w : Works hub seated c.args.worker.now start (so_far given then.written) =
-    then.beats hub seated c.args.worker.now start given at_first in
+    then.signals hub seated c.args.worker.now start given at_first in
     let answers : FaultAnswersTalk fault.cause fault.batch (setup_of hub.config) seated
     (taken_in w.turns) c.args.piece.now c.feed.new.self.stage =
     fault_at c.config.result.now hub.config c.args.worker.now.session.seated seated
@@ -133,7 +133,7 @@ returns-in_err-cause-in-Err-clause-takes g c =
     let fault = c.in-Err.fault in
     let then = c.in_err-cause-in-Err.ensures.ends in
     let w : Works hub seated c.args.worker.now start (so_far given then.written) =
-    then.beats hub seated c.args.worker.now start given at_first in
+    then.signals hub seated c.args.worker.now start given at_first in
     let answers : FaultAnswersTalk fault.cause fault.batch (setup_of hub.config) seated
     (taken_in w.turns) c.args.piece.now c.feed.new.self.stage =
     fault_at c.config.result.now hub.config c.args.worker.now.session.seated seated
