@@ -29,6 +29,15 @@ pub const AT_ONCE: &[u8] = b"HAProxyS 2.1\nagg\nlb1 1 1\n\
 /// A resync request, and its end.
 pub const RESYNC: &[u8] = b"\x00\x00\x00\x01";
 
+/// The end of a resync, of which all was sent.
+pub const FINISHED: &[u8] = b"\x00\x01";
+
+/// The end of a resync, of which not all was sent.
+pub const PARTIAL: &[u8] = b"\x00\x02";
+
+/// The peer is there.
+pub const BEAT: &[u8] = b"\x00\x04";
+
 /// An update whose length is 240 + 242 * 16 + 7 * 2048, above 16,384.
 pub const TOO_LONG: &[u8] = b"\x0a\x80\xf0\xf2\x07";
 

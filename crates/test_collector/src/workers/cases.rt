@@ -1,8 +1,8 @@
 //! What peers send in each row.
 
 use crate::workers::bytes::{
-    AT_ONCE, DEFINE_FIVE, DEFINE_SEVEN, ERROR, HELLO, NO_FIELD, OTHER_HELLO, RESYNC, SIX, TOO_LONG,
-    TWO,
+    AT_ONCE, BEAT, DEFINE_FIVE, DEFINE_SEVEN, ERROR, FINISHED, HELLO, NO_FIELD, OTHER_HELLO,
+    PARTIAL, RESYNC, SIX, TOO_LONG, TWO,
 };
 use crate::workers::memory::Step;
 
@@ -20,7 +20,7 @@ pub const OTHER_TALK: [Step; 2] = [Step::Bytes(OTHER_HELLO), Step::Bytes(DEFINE_
 pub const NO_HELLO: [Step; 1] = [Step::Bytes(b"Foo 2.1\n")];
 
 /// What each session sends, and what it shows.
-pub const SESSIONS: [(&str, &[Step]); 16] = [
+pub const SESSIONS: [(&str, &[Step]); 21] = [
     ("a right hello", &[Step::Bytes(HELLO)]),
     ("no hello", &NO_HELLO),
     ("another version", &[Step::Bytes(b"HAProxyS 3.0\n")]),
@@ -83,6 +83,52 @@ pub const SESSIONS: [(&str, &[Step]); 16] = [
             Step::Bytes(SIX),
         ],
     ),
+    (
+        "a resync in part, and silence for 1,999 ms",
+        &[Step::Bytes(HELLO), Step::Bytes(PARTIAL), Step::Silent(1999)],
+    ),
+    (
+        "a resync in part, and silence for 2,000 ms",
+        &[Step::Bytes(HELLO), Step::Bytes(PARTIAL), Step::Silent(2000)],
+    ),
+    (
+        "a resync in part, another one 1,000 ms behind it, and 1,999 ms more",
+        &[
+            Step::Bytes(HELLO),
+            Step::Bytes(PARTIAL),
+            Step::Silent(1000),
+            Step::Bytes(PARTIAL),
+            Step::Silent(2999),
+        ],
+    ),
+    (
+        "a resync in part, a whole one, one in part, and silence for 2,999 ms",
+        &[
+            Step::Bytes(HELLO),
+            Step::Bytes(PARTIAL),
+            Step::Bytes(FINISHED),
+            Step::Bytes(PARTIAL),
+            Step::Silent(2999),
+        ],
+    ),
+    ("resyncs in part, until one is whole", &ASKED_AGAIN),
+];
+
+/// A peer that sends its rows in part twice, and is asked again 2 s and then 5 s behind that. Once
+/// it sent all it isn't asked any more.
+const ASKED_AGAIN: [Step; 12] = [
+    Step::Bytes(HELLO),
+    Step::Bytes(PARTIAL),
+    Step::Silent(1999),
+    Step::Silent(2000),
+    Step::Bytes(PARTIAL),
+    Step::Silent(4999),
+    Step::Bytes(BEAT),
+    Step::Silent(5000),
+    Step::Silent(6999),
+    Step::Silent(7000),
+    Step::Bytes(FINISHED),
+    Step::Silent(9999),
 ];
 
 /// A peer whose address comes into a filter's set and leaves it, and that asks for a resync in
