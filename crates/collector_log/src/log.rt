@@ -90,6 +90,11 @@ pub enum Event<'a> {
     LinesLost {
         count: u64,
     },
+    /// A command of an operator changed something. Its sender chose the bytes.
+    AdminChanged {
+        address: Option<SocketAddr>,
+        command: &'a [u8],
+    },
     /// An operator's connection was closed before it was served: no seat, or out of memory.
     AdminTurnedAway {
         address: Option<SocketAddr>,
@@ -117,6 +122,7 @@ impl<'a> Event<'a> {
             Event::PeerTurnedAway { .. } => "error connection turned away",
             Event::PeersUnasked { .. } => "warn connections from elsewhere closed",
             Event::LinesLost { .. } => "warn log lines lost",
+            Event::AdminChanged { .. } => "info admin changed",
             Event::AdminTurnedAway { .. } => "warn admin turned away",
             Event::Alarm(alarm) => alarm.words(),
         }
@@ -203,6 +209,9 @@ impl<'a> fmt::Display for Line<'a> {
             }
             Event::PeersUnasked { count, last } => write!(f, " count={count}{}", From(last)),
             Event::LinesLost { count } => write!(f, " count={count}"),
+            Event::AdminChanged { address, command } => {
+                write!(f, "{} command={}", From(address), Value(command))
+            }
             Event::AdminTurnedAway { address } => {
                 write!(f, "{} reason=\"no seat, or out of memory\"", From(address))
             }

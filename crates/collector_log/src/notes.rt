@@ -203,6 +203,9 @@ impl<'a, R: Clock + Wait + Memory> Gate for Notes<'a, R> {
             News::Came(peer) => self.came(peer),
             News::Posted(peer, updates) => self.board.post(peer, updates, self.clock.moment()),
             News::Defined(peer, definition) => self.defined(peer, definition),
+            News::Changed(address, command) => {
+                self.note(Event::AdminChanged { address, command });
+            }
             News::Gone(gone) => self.gone(gone),
             News::Ticked => self.board.post_moment(self.clock.moment()),
             News::Sat => self.board.sit(),

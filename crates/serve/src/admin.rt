@@ -19,7 +19,7 @@ use crate::clock::Clock;
 use crate::context::{Context, Link};
 use crate::door::Door;
 use crate::faults::LineFault;
-use crate::gate::{Gate, Place};
+use crate::gate::{Gate, News, Place};
 use crate::lines::{Line, split_line};
 use crate::poster::Poster;
 use crate::served::{Cause, Faulted, Served};
@@ -30,8 +30,10 @@ use crate::writing::{front, send};
 use agg_types::{NoMemory, What, Whats};
 use book::Book;
 use hub::{Lens, Naming, Pass, PostFault};
+use show_clear::without_returns;
 use std::alloc::Global;
 use std::io::Write;
+use std::net::SocketAddr;
 use std::sync::Wait;
 
 /// After so many reads in a row that gave nothing an admin connection is over.
@@ -51,13 +53,15 @@ struct AdminWorker {
     poster: Poster,
     line: Line,
     silent: u32,
+    // who sends its lines, where that has an address
+    sender: Option<SocketAddr>,
 }
 
 impl AdminWorker {
     ghost use Rattle.serve.specs.Commanding.{HasLearned, LooksTo, kept_of};
 
     // An admin that has read nothing.
-    fn new(alloc: Global, lens: Lens, pass: Pass) -> AdminWorker
+    fn new(alloc: Global, lens: Lens, pass: Pass, sender: Option<SocketAddr>) -> AdminWorker
         ensures pass { result.poster.pass ≡ pass }
         ensures lens { result.lens ≡ lens }
         ensures line { result.line.bytes.items ≡ [] }
@@ -71,6 +75,7 @@ impl AdminWorker {
             poster,
             line,
             silent: 0,
+            sender,
         }
     }
 
@@ -108,6 +113,12 @@ impl AdminWorker {
         self.line.add(bytes)
     }
 
+    // Tells that the line that is kept changed something.
+    fn tell<G: Gate>(&self, gate: &G) {
+        let line = without_returns(self.line.as_slice());
+        gate.tell(Place::Admin, News::Changed(self.sender, line));
+    }
+
     // Notes that a read gave nothing. Whether the connection goes on.
     fn wait(&mut self) -> bool
         ensures poster { self.new.poster ≡ self.old.poster }
@@ -132,7 +143,7 @@ impl<'a, J: Naming, H: Wait + Drop, R: Wait, C: Clock, G: Gate> Context<'a, J, H
     ghost use Rattle.serve.specs.Commanding.{KeepsPoster, ObeysTo, RunsOut, Takes, Works, WorksOn};
     ghost use Rattle.serve.specs.Commanding.{kept_of};
 
-    // Posts a change, and learns that it is shown.
+    // Posts a change, and learns and tells that it is shown.
     fn change(&self, worker: &mut AdminWorker, what: What) -> Result<(), PostFault>
         requires at { IsAtHub self.now.hub.now worker.old }
         requires fits { MayPost self.now.hub.now.config what }
@@ -146,6 +157,7 @@ impl<'a, J: Naming, H: Wait + Drop, R: Wait, C: Clock, G: Gate> Context<'a, J, H
         };
         worker.poster.post(self.rt, self.hub, whats)?;
         worker.poster.show(&mut worker.lens);
+        worker.tell(self.gate);
         Ok(())
     }
 
@@ -335,9 +347,9 @@ impl<'a, J: Naming, H: Wait + Drop, R: Wait, C: Clock, G: Gate> Context<'a, J, H
     ///
     /// A line ends with LF; one that hasn't ended when the connection does is dropped. Its answer
     /// has an empty line behind it, and is made whole, and the look given up, before anything is
-    /// posted or written. A change is posted and learned, and then answered `ok`. A line `quit`
-    /// ends the connection, without an answer; so do 20 reads in a row that gave nothing. `door`
-    /// says for whom the answers are.
+    /// posted or written. A change is posted, learned and told, and then answered `ok`. A line
+    /// `quit` ends the connection, without an answer; so do 20 reads in a row that gave nothing.
+    /// `door` says for whom the answers are.
     pub fn serve_admin<S: Source, W: Write>(
         &self,
         link: &mut Link<S, W>,
@@ -363,7 +375,8 @@ impl<'a, J: Naming, H: Wait + Drop, R: Wait, C: Clock, G: Gate> Context<'a, J, H
             → (S.failed link.old.source < S.failed link.new.source)
             ⊎ (S.reads link.new.source ≡ MOST_READS)) }
     {
-        let mut worker = AdminWorker::new(self.alloc, lens, pass);
+        let sender = link.source.sender();
+        let mut worker = AdminWorker::new(self.alloc, lens, pass, sender);
         let ended = self.run_admin(&mut worker, link, door);
         let served = worker.into_poster().leave(self.rt, self.hub);
         match ended {

@@ -28,6 +28,10 @@ pub enum News<'a> {
     Posted(usize, u64),
     /// A peer's session defined a table, whether it is followed or not.
     Defined(usize, &'a Definition),
+    /// A command of an admin changed something, and that is shown: it is answered `ok` next. Who
+    /// sent it, where that has an address, and its line without its end. The sender chose these
+    /// bytes.
+    Changed(Option<SocketAddr>, &'a [u8]),
     /// The connection of a session is over.
     Gone(Gone<'a>),
     /// A timer's moment was posted, and is shown.
@@ -67,8 +71,8 @@ pub trait Gate {
     /// before each turn of a timer.
     fn stop(&self) -> bool;
 
-    /// What happened at a place: who came and who went, once each; what was posted and defined in
-    /// between; and which connections weren't served.
+    /// What happened at a place: who came and who went, once each; what was posted, defined and
+    /// changed in between; and which connections weren't served.
     fn tell(&self, _place: Place, _news: News<'_>) {}
 
     /// Appends the answer to what an admin asks of the collector itself, each line with its LF and

@@ -86,6 +86,17 @@ fn show_replaced<R: Print + Wait>(notes: &Notes<'_, Still<R>>) {
     notes.journal.note(&notes.rt, replaced);
 }
 
+/// Commands that changed something, from an address and from none.
+fn show_changes<R: Print + Wait>(notes: &Notes<'_, Still<R>>) {
+    for (sender, command) in [
+        (sender(), b"clear table clients key 10.0.0.1".as_slice()),
+        (sender(), b"del filter  hot"),
+        (None, b"clear table names key \"a\xffb\""),
+    ] {
+        notes.tell(Place::Admin, News::Changed(sender, command));
+    }
+}
+
 /// Connections that are turned away, before and after a turn of the timer.
 fn show_turned_away<R: Print + Wait>(rt: &R, notes: &Notes<'_, Still<R>>) {
     notes.tell(SESSION, News::TurnedAway(sender()));
@@ -116,6 +127,7 @@ fn show_lines<R: Print + Wait + Copy + AllocGlobal>(
     notes.tell(SESSION, News::Came(1));
     status::define(rt, notes)?;
     show_ends(rt, notes);
+    show_changes(notes);
     show_turned_away(rt, notes);
     for name in NAMES {
         show_stranger(notes, Some(name), Some(&Cause::Read));

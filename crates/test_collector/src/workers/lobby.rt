@@ -6,7 +6,9 @@ use crate::workers::order::{Order, Who};
 use crate::workers::paper::{EVEN, Paper};
 use crate::workers::told::Ending;
 use agg_types::Config;
-use serve::{Caller, Came, Clock, Door, Doors, Faulted, Gate, Place, ReadFailed, Served, Source};
+use serve::{
+    Caller, Came, Clock, Door, Doors, Faulted, Gate, News, Place, ReadFailed, Served, Source,
+};
 use std::alloc::Global;
 use std::sync::Wait;
 use std::sync::atomic::{AtomicUsize, Ordering};
@@ -184,7 +186,7 @@ impl<'a, R: Wait + Print> Clock for Lobby<'a, R> {
     }
 }
 
-impl<'a, R: Wait> Gate for Lobby<'a, R> {
+impl<'a, R: Wait + Print> Gate for Lobby<'a, R> {
     fn turn(&self, place: Place) {
         if place == Place::Timer {
             if self.beats.fetch_add(1, Ordering::SeqCst) == 0 {
@@ -196,5 +198,13 @@ impl<'a, R: Wait> Gate for Lobby<'a, R> {
 
     fn stop(&self) -> bool {
         self.order.is_closed()
+    }
+
+    // Prints what an admin changed.
+    fn tell(&self, _place: Place, news: News<'_>) {
+        if let News::Changed(address, line) = news {
+            let (turn, line) = (self.order.place(), line.escape_ascii());
+            let _ = println!(self.rt; "turn {turn}: {address:?} changed it by [{line}]");
+        }
     }
 }
