@@ -25,9 +25,9 @@ use std::time::{Clock, Instant};
 use std::{io, thread};
 use web_serve::Web;
 
-/// How many may look at once: four admin connections, each of which may be about to end, and who
-/// sees to full tables.
-const PLACES: usize = 9;
+/// How many may look at once: four admin connections, each of which may be about to end, the timer,
+/// and who sees to full tables.
+const PLACES: usize = 10;
 
 /// How many more where there is an HTTP door.
 const WEB_PLACES: usize = 16;

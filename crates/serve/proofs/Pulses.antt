@@ -1,12 +1,15 @@
 -- Signals of a session that waits.
 use Rattle.std.proofs.Common.{◌≡◌, ℕ, List, [], ◌∷◌, ◌++◌, length, ◌==◌, true, Option, None, Ok}
-use Rattle.std.proofs.Common.{refl, sym, subst, append-nil, arith}
+use Rattle.std.proofs.Common.{refl, sym, ap, subst, append-nil, arith, ◌⊎◌, inl, inr, ◌∙◌}
 use Rattle.std.proofs.lemmas.Bool.Decides.{nat_tests}
 use Rattle.std.specs.Io.KnownBytes.{Appends}
 use Rattle.agg_types.specs.declared.event.What.{What}
 use Rattle.session_core.specs.declared.batch.SessionFault.{SessionFault}
 use Rattle.session_core.specs.declared.cause.SessionCause.{SessionCause}
 use Rattle.session_core.specs.declared.cause.SessionCause.TheVariants as causes
+use Rattle.session_core.specs.State.{SessionState, after_idle, idle_of}
+use Rattle.session_core.specs.declared.session.Idle.{Idle}
+use Rattle.session_core.specs.declared.session.Idle.TheVariants.{Nothing, Beat}
 use Rattle.hub.specs.History.{Beginning}
 use Rattle.serve.proofs.Works.{signalled}
 use Rattle.serve.specs.declared.poster.Poster.{Poster}
@@ -24,6 +27,29 @@ pub signals_one : (signal : Signal) (a b : Option (List ℕ)) → Appends a b (t
 signals_one signal a b sends =
     λ hub seated worker start given w.
     signalled hub seated worker worker signal start given a b refl refl refl refl w sends
+
+-- a session that isn't ended for its silence stands for what it stood for, and was heard when it
+-- was heard
+pub idle_kept : (old new : SessionState) (now : ℕ) (answer : Idle)
+    → (answer ≡ Nothing) ⊎ (answer ≡ Beat) → answer ≡ idle_of old now
+    → new ≡ after_idle old now (idle_of old now)
+    → (new.seated ≡ old.seated) × (new.stage ≡ old.stage) × (new.last_input ≡ old.last_input)
+    × (new.late ≡ old.late)
+idle_kept old new now answer (inl none) is after =
+    let same : new ≡ old = after ∙ ap (after_idle old now) (sym is ∙ none) in (
+      ap (λ (s : SessionState). s.seated) same,
+      ap (λ (s : SessionState). s.stage) same,
+      ap (λ (s : SessionState). s.last_input) same,
+      ap (λ (s : SessionState). s.late) same,
+    )
+idle_kept old new now answer (inr beat) is after =
+    let same : new ≡ after_idle old now Beat =
+    after ∙ ap (after_idle old now) (sym is ∙ beat) in (
+      ap (λ (s : SessionState). s.seated) same,
+      ap (λ (s : SessionState). s.stage) same,
+      ap (λ (s : SessionState). s.last_input) same,
+      ap (λ (s : SessionState). s.late) same,
+    )
 
 nothing_in : (whats : List What) → true ≡ (length whats == 0) → whats ≡ []
 nothing_in [] is = refl

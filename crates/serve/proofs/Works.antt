@@ -316,11 +316,11 @@ unsettled A hub seated old new start given after taken more piece batch end answ
     says_beyond setup (talk setup seated (taken_in w.turns))
     (talk setup seated (taken_in w.turns ++ piece)) batch stands.grows in record {
       bytes = taken_in w.turns ++ piece;
-      written = answers_in setup seated w.turns ++ settles.1.front.front;
+      written = answers_in setup seated w.turns ++ settles.1.front;
       carried = record {
         gave = wrote_more start.given given after (taken_in w.turns) piece w.carried.gave gives;
-        took = wrote_more start.taken taken more (answers_in setup seated w.turns)
-            settles.1.front.front w.carried.took settles.1.front.wrote;
+        took = wrote_more start.taken taken more (answers_in setup seated w.turns) settles.1.front
+            w.carried.took settles.1.wrote;
       };
       ends = inl (record {
         turns = w.turns;
@@ -511,7 +511,8 @@ ends_as setup seated S P Q bytes written Write f (inr is) = inr (record {
   read = is.read;
   told = f (facts_in setup seated is.turns)
       (length (talk setup seated bytes).facts - length (facts_in setup seated is.turns)) is.told;
-  beat = is.beat;
+  signal = is.signal;
+  cut = is.cut;
   answered = is.answered;
 })
 ends_as setup seated S P Q bytes written (Session cause) f is =

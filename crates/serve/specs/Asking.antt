@@ -1,5 +1,5 @@
 -- When a session asks its proxy for all rows again.
-use Rattle.std.specs.Prelude.{◌≡◌, ℕ, ◌+◌, ◌-◌, nat_le, Bool, true, false, not, ◌&&◌, ◌==◌}
+use Rattle.std.specs.Prelude.{◌≡◌, ℕ, ◌+◌, ◌-◌, nat_le, nat_lt, Bool, true, false, not, ◌&&◌, ◌==◌}
 use Rattle.std.specs.Prelude.{if◌then◌else◌, List, [], ◌∷◌, Option, None, Some}
 use Rattle.serve.specs.declared.asking.Answer.{Answer}
 use Rattle.serve.specs.declared.asking.Answer.TheVariants.{Finished, Partial}
@@ -44,12 +44,15 @@ abbrev pub is_waited : Option ℕ → ℕ → ℕ → Bool
 is_waited None wait now = false
 is_waited (Some partial) wait now = nat_le wait (now - partial)
 
--- Whether it is asked again at a moment behind these events: a while behind a partial, not once
--- finished was heard, and at most so often.
+-- Whether it is asked again at a moment that was asked again so often before: a while behind a
+-- partial, not once finished was heard, and at most so often.
+abbrev pub is_due : ℕ → Option ℕ → Bool → ℕ → Bool
+is_due asked partial over now =
+    not over && nat_lt asked MOST_ASKED && is_waited partial (wait_after asked) now
+
+-- the same behind these events
 abbrev pub asks_at : List Event → ℕ → Bool
-asks_at events now =
-    not (is_over_in events) && not (nat_le MOST_ASKED (asked_in events))
-    && is_waited (partial_in events) (wait_after (asked_in events)) now
+asks_at events now = is_due (asked_in events) (partial_in events) (is_over_in events) now
 
 -- the events behind a moment at which it was asked, if it was
 abbrev pub noted : Bool → List Event → List Event

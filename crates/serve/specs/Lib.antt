@@ -10,6 +10,7 @@ pub mod Tellings
 pub mod Working
 pub mod Waiting
 pub mod Moments
+pub mod Ticking
 pub mod Commands
 pub mod Commanding
 pub mod Parting

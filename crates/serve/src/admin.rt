@@ -21,6 +21,7 @@ use crate::door::Door;
 use crate::faults::LineFault;
 use crate::gate::{Gate, News, Place};
 use crate::lines::{Line, split_line};
+use crate::pace::Pace;
 use crate::poster::Poster;
 use crate::served::{Cause, Faulted, Served};
 use crate::source::{Came, Source, buffer};
@@ -55,6 +56,7 @@ struct AdminWorker {
     silent: u32,
     // who sends its lines, where that has an address
     sender: Option<SocketAddr>,
+    pace: Pace,
 }
 
 impl AdminWorker {
@@ -76,14 +78,16 @@ impl AdminWorker {
             line,
             silent: 0,
             sender,
+            pace: Pace::new(),
         }
     }
 
     // Answers the line that is kept, over a look that has all that was posted and learned. None
     // where no copy of the book could be entered.
-    fn look<G: Gate>(
+    fn look<C: Clock, G: Gate>(
         &mut self,
         alloc: Global,
+        clock: &C,
         gate: &G,
         door: Door,
     ) -> Result<Option<Answered>, NoMemory>
@@ -96,10 +100,12 @@ impl AdminWorker {
             → HasNoEnd line → quits line ≡ false
             → LooksTo door hub since seat self.new whats line result }
     {
+        let begun = clock.now();
         let Some(look) = self.lens.look() else {
             return Ok(None);
         };
         let answered = answer_to(alloc, gate, look.book(), self.line.as_slice(), door)?;
+        self.pace = Pace::behind(begun, clock.now());
         Ok(Some(answered))
     }
 
@@ -216,7 +222,8 @@ impl<'a, J: Naming, H: Wait + Drop, R: Wait, C: Clock, G: Gate> Context<'a, J, H
             (W.contents writer.new) result }
     {
         self.gate.turn(Place::Admin);
-        match worker.look(self.alloc, self.gate, door) {
+        worker.pace.rest(self.clock, self.gate);
+        match worker.look(self.alloc, self.clock, self.gate, door) {
             Ok(Some(answered)) => self.reply(worker, writer, answered),
             Ok(None) => Err(LineFault::Look),
             Err(NoMemory) => Err(LineFault::Post(refused(self.alloc))),
@@ -350,6 +357,9 @@ impl<'a, J: Naming, H: Wait + Drop, R: Wait, C: Clock, G: Gate> Context<'a, J, H
     /// posted or written. A change is posted, learned and told, and then answered `ok`. A line
     /// `quit` ends the connection, without an answer; so do 20 reads in a row that gave nothing.
     /// `door` says for whom the answers are.
+    ///
+    /// Behind a look of 5 ms or more it rests as long before the next one, unless the gate says
+    /// stop.
     pub fn serve_admin<S: Source, W: Write>(
         &self,
         link: &mut Link<S, W>,

@@ -4,8 +4,9 @@
 //! nothing: the rows of the worker before reach it a moment later, and it doesn't push them then.
 //! Asked again it teaches all, and answers finished.
 
-ghost use Rattle.std.specs.Prelude.{◌≡◌, List, [], ◌∷◌};
-ghost use Rattle.serve.specs.Asking.{Event, Heard, StandsFor, asks_at, noted, wait_after};
+ghost use Rattle.std.specs.Prelude.{◌≡◌, ◌<◌, true, List, [], ◌∷◌};
+ghost use Rattle.serve.specs.Asking.{Event, Heard, StandsFor, asks_at, is_due, is_waited};
+ghost use Rattle.serve.specs.Asking.{noted, wait_after};
 
 /// What a proxy answers a resync request.
 #[derive(Clone, Copy, Debug, PartialEq, Eq)]
@@ -69,18 +70,22 @@ impl Asking {
         }
     }
 
-    /// Whether a request is due.
-    fn is_due(&self, now: u64) -> bool
-        ensures { (events : List Event) → StandsFor self.now events
-            → result ≡ asks_at events now }
+    // Whether the last partial was heard so long ago that a request is due.
+    fn is_waited(&self, now: u64) -> bool
+        ensures { result ≡ is_waited self.now.partial (wait_after self.now.asked) now }
     {
-        if self.is_over || self.asked >= MOST_ASKED {
-            return false;
-        }
         match self.partial {
             None => false,
             Some(partial) => now.saturating_sub(partial) >= wait_after(self.asked),
         }
+    }
+
+    // Whether a request is due.
+    fn is_due(&self, now: u64) -> bool
+        ensures few { result ≡ true → self.now.asked < MOST_ASKED }
+        ensures due { result ≡ is_due self.now.asked self.now.partial self.now.is_over now }
+    {
+        !self.is_over && self.asked < MOST_ASKED && self.is_waited(now)
     }
 
     /// Whether a request is to be sent at a moment. If so, that is noted.

@@ -68,7 +68,7 @@ pub trait Gate {
     fn turn(&self, place: Place);
 
     /// Whether the worker is to end, as at the end of its source. Asked before each read, and
-    /// before each turn of a timer.
+    /// before each post of a timer.
     fn stop(&self) -> bool;
 
     /// What happened at a place: who came and who went, once each; what was posted, defined and

@@ -11,9 +11,10 @@
 //! made. No clause says when a telling is made, nor when a piece of it is written. Promised of an
 //! admin: exactly the changes that its lines ask for are posted, in their order. It answers each
 //! line over a book that shows those before it, for programs or for people (`Door`). It answers a
-//! change only once that was posted. Promised of a timer: it tells moments of its clock. Each goes
-//! back from `serve_all` with what is promised of it; no clause says what `serve_all` starts, when
-//! it ends, or what it counts.
+//! change only once that was posted. Promised of a timer: it tells moments of its clock, and before
+//! each others that rise up to it, so that few rows end by each. Each goes back from `serve_all`
+//! with what is promised of it; no clause says what `serve_all` starts, when it ends, or what it
+//! counts.
 #![tactic(auto)]
 
 mod admin;
@@ -31,6 +32,7 @@ mod hello;
 pub mod laws;
 mod lines;
 mod moves;
+mod pace;
 mod poster;
 mod pushing;
 mod scout;

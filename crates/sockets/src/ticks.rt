@@ -51,4 +51,8 @@ impl<R: Clock> serve::Clock for Ticks<R> {
     fn rest(&self) {
         self.rt.sleep(Duration::from_millis(REST));
     }
+
+    fn pause(&self, time: u64) {
+        self.rt.sleep(Duration::from_millis(time));
+    }
 }

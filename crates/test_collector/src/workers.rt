@@ -23,6 +23,7 @@ mod paper;
 mod peers;
 mod pieces;
 mod recording;
+mod rests;
 mod rival;
 mod scene;
 mod timers;
@@ -169,7 +170,8 @@ fn add_gates(scenes: &mut Vec<Scene>) -> Result<()> {
     Ok(())
 }
 
-/// Many workers, one after the other, that end before their source does; and timers.
+/// Many workers, one after the other, that end before their source does; timers; and an admin that
+/// rests.
 fn add_last(scenes: &mut Vec<Scene>) -> Result<()> {
     for scene in [
         Scene::Leaving(
@@ -180,6 +182,11 @@ fn add_last(scenes: &mut Vec<Scene>) -> Result<()> {
         Scene::Quitting(gated("admins whose gate closes", &cases::COMMANDS, 2), 600),
         Scene::Timer([100, 200, 150, 300]),
         Scene::Timer([70, 70, 70, 70]),
+        Scene::Portions(1000, 4),
+        Scene::Portions(3, 6),
+        Scene::Portions(1, 3),
+        Scene::Resting(1000),
+        Scene::Resting(5),
     ] {
         scenes.push(scene)?;
     }

@@ -3,7 +3,7 @@
 use crate::workers::memory::Step;
 use crate::workers::paper::EVEN;
 use crate::workers::peers::Case;
-use crate::workers::{admins, cases, peers, timers};
+use crate::workers::{admins, cases, peers, rests, timers};
 use anyhow::Result;
 use hub::{Hub, Naming};
 use serve::Door;
@@ -24,6 +24,10 @@ pub enum Scene {
     Person(Case),
     /// A timer over these moments.
     Timer([u64; 4]),
+    /// A timer that lets so many rows end by one moment, and whose gate is open for so many looks.
+    Portions(usize, u64),
+    /// An admin whose looks last, and whose gate is open for so many looks.
+    Resting(u64),
     /// So many sessions one after the other.
     Leaving(Case, u64),
     /// So many admins one after the other.
@@ -122,6 +126,8 @@ pub fn play<J: Naming, H: Wait + Drop, R: Wait + Clock + Print>(
         Scene::Admin(case) => admin(rt, alloc, hub, case, Door::Programs),
         Scene::Person(case) => admin(rt, alloc, hub, case, Door::People),
         Scene::Timer(moments) => timers::row(rt, alloc, hub, moments),
+        Scene::Portions(portion, open) => timers::portions(rt, alloc, hub, portion, open),
+        Scene::Resting(looks) => rests::row(rt, alloc, hub, looks),
         Scene::Leaving(case, count) => {
             say_left(rt, case, count, peers::leavers(rt, alloc, hub, case, count))
         }

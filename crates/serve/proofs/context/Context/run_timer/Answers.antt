@@ -1,37 +1,38 @@
-use Rattle.std.proofs.Common.{◌≡◌, ap, subst, ◌∙◌}
-use Rattle.serve.proofs.Timed.{timed_none, timed_served}
-use Rattle.serve.specs.Moments.{IsTimed, stored_by}
+use Rattle.std.proofs.Common.{◌≡◌, ap, subst, ◌∙◌, true}
+use Rattle.serve.proofs.Timed.{ticking_none, timed_served}
+use Rattle.serve.specs.Moments.{IsTimed, cut_by, stored_by}
 use Rattle.serve.proofs.context.Context.run_timer.Goals as goal
 
 pub post_moments-ended-requires : goal.post_moments-ended-requires
 post_moments-ended-requires g c = record {
-  timed = timed_none c.args.self.now.hub.now (g.C.Clock.gives c.args.self.now.clock.now)
+  at = ticking_none c.args.self.now.hub.now (g.C.Clock.gives c.args.self.now.clock.now)
       c.new-poster.result
       (c.new-poster.ensures.told c.args.self.now.hub.now c.requires.pass.0 c.requires.pass.1);
 }
 
 pub returns-in-Ok-clause-ok : goal.returns-in-Ok-clause-ok
 returns-in-Ok-clause-ok g c =
-    let same : c.post_moments-ended.new.poster.pass.seat ≡ c.args.pass.seat = c.in-Ok.ensures.seat
-    ∙ ap (λ p. p.seat) c.new-poster.ensures.pass in
+    let same : c.post_moments-ended.new.ticker.poster.pass.seat ≡ c.args.pass.seat =
+    c.in-Ok.ensures.seat ∙ ap (λ p. p.seat) c.new-poster.ensures.pass in
     subst (λ seat. IsTimed c.args.self.now.hub.now
-    (g.C.Clock.gives c.args.self.now.clock.now) seat 0
+    (g.C.Clock.gives c.args.self.now.clock.now) true seat 0
     c.leave-served.result) same
-    (timed_served c.args.self.now.hub.now (g.C.Clock.gives c.args.self.now.clock.now)
-    c.post_moments-ended.new.poster
-    c.post_moments-ended.new.poster.pass.seat 0 c.leave-served.result c.in-Ok.ensures.timed
+    (timed_served c.args.self.now.hub.now (g.C.Clock.gives c.args.self.now.clock.now) true
+    c.post_moments-ended.new.ticker.poster
+    c.post_moments-ended.new.ticker.poster.pass.seat 0 c.leave-served.result c.in-Ok.ensures.timed
     (λ whats told. c.leave-served.ensures whats 0 told))
 
-pub returns-in-Err-clause-err : goal.returns-in-Err-clause-err
-returns-in-Err-clause-err g c =
-    let same : c.post_moments-ended.new.poster.pass.seat ≡ c.args.pass.seat = c.in-Err.ensures.seat
-    ∙ ap (λ p. p.seat) c.new-poster.ensures.pass in
+pub returns-clause-err : goal.returns-clause-err
+returns-clause-err g c =
+    let same : c.post_moments-ended.new.ticker.poster.pass.seat ≡ c.args.pass.seat =
+    c.in-Err.ensures.seat ∙ ap (λ p. p.seat) c.new-poster.ensures.pass in
     subst (λ seat. IsTimed c.args.self.now.hub.now
-    (g.C.Clock.gives c.args.self.now.clock.now) seat
+    (g.C.Clock.gives c.args.self.now.clock.now) (cut_by c.in-Err.cause) seat
     (stored_by c.in-Err.cause)
     c.leave-served.result) same
     (timed_served c.args.self.now.hub.now (g.C.Clock.gives c.args.self.now.clock.now)
-    c.post_moments-ended.new.poster
-    c.post_moments-ended.new.poster.pass.seat (stored_by c.in-Err.cause) c.leave-served.result
-    c.in-Err.ensures.timed
+    (cut_by c.in-Err.cause)
+    c.post_moments-ended.new.ticker.poster
+    c.post_moments-ended.new.ticker.poster.pass.seat (stored_by c.in-Err.cause)
+    c.leave-served.result c.in-Err.ensures.timed
     (λ whats told. c.leave-served.ensures whats (stored_by c.in-Err.cause) told))
