@@ -5,13 +5,13 @@
 
 ghost use Rattle.std.specs.Prelude.{◌≡◌, IfOk, IfSome};
 
-use crate::shared::{leave_once, post_once};
 use crate::shown::seen;
 use agg_types::{What, Whats};
 use anyhow::{Result, anyhow, ensure};
 use hub::{Hub, Lens, Naming, Pass, PostFault, Receipt};
 use std::alloc::Global;
 use std::sync::Wait;
+use test_hub_calls::{leave_once, post_once};
 
 /// Posts a batch, and shows what is pending of it by an empty batch.
 pub fn post<J: Naming, H: Wait + Drop, W: Wait>(

@@ -2,7 +2,6 @@
 
 ghost use Rattle.std.specs.Prelude.{◌≡◌};
 
-use crate::shared::{batch, lens, post, seen, session, sit};
 use agg_types::Whats;
 use anyhow::{Result, anyhow};
 use hub::{Hub, Naming, Opening, Pass};
@@ -12,6 +11,7 @@ use std::sync::atomic::{AtomicBool, Ordering};
 use std::thread;
 use std::thread::Threads;
 use std::time::{Clock, Duration, Instant};
+use test_hub_calls::{batch, lens, post, seen, session, sit};
 
 /// How long the look lasts once the other thread posts, in ms.
 const LOOK: u64 = 100;

@@ -4,12 +4,12 @@
 ghost use Rattle.std.specs.Prelude.{◌≡◌, IfOk};
 
 use crate::fleet::Batch;
-use crate::shared::{lens, post, sit};
 use anyhow::{Result, anyhow};
 use book::keys_named;
 use hub::{Change, Hub, Lens, Naming, Opening, Pass};
 use std::alloc::Global;
 use std::sync::Wait;
+use test_hub_calls::{lens, post, sit};
 use test_support::config;
 
 /// The keys of two rows, of which one comes 500 ms before the other.

@@ -16,13 +16,11 @@ mod no_memory;
 mod posting;
 mod replaced;
 mod seats;
-mod shared;
 mod shown;
 
 use crate::changes::{follow, pushing};
 use crate::no_memory::{fleet_opened, opened};
 use crate::posting::{late, run_alone};
-use crate::shared::opening;
 use anyhow::Result;
 use std::alloc::Global;
 use std::env::Env;
@@ -30,6 +28,7 @@ use std::marker::Brand;
 use std::sync::Wait;
 use std::thread::Threads;
 use std::time::Clock;
+use test_hub_calls::opening;
 
 /// Posts, seats, lenses and leaves, each made once more where an allocation failed.
 fn run_again<R: Print + Wait>(rt: &R, alloc: Global) -> Result<()> {

@@ -4,13 +4,13 @@ ghost use Rattle.std.specs.Prelude.{◌≡◌, IfOk};
 
 use crate::again::{leave, post};
 use crate::fleet::{Batch, opening};
-use crate::shared::sit;
 use crate::shown::seen;
 use agg_types::Whats;
 use anyhow::{Context, Result};
 use hub::{Hub, Lens, Naming, Opening, Pass, Receipt};
 use std::alloc::Global;
 use std::sync::Wait;
+use test_hub_calls::sit;
 
 /// Keys that are as long as a key may be that takes no memory of its own, and longer ones.
 const KEYS: [&[u8]; 3] = [

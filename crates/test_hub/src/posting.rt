@@ -4,12 +4,12 @@ ghost use Rattle.std.specs.Prelude.{◌≡◌};
 
 use crate::replaced::replace;
 use crate::seats::{fill, has_place};
-use crate::shared::{lens, post, seen, session, sit};
 use agg_types::{What, Whats};
 use anyhow::Result;
 use hub::{Hub, Lens, Naming, Opening};
 use std::alloc::Global;
 use std::sync::Wait;
+use test_hub_calls::{lens, post, seen, session, sit};
 use test_support::{alone, put};
 
 /// Two sessions, one after the other, each with a peer of its own; what they posted is learned.

@@ -5,12 +5,12 @@ ghost use Rattle.std.specs.List.{All};
 ghost use Rattle.hub.specs.Roll.{MayPost};
 ghost use Rattle.test_hub.specs.Seen.{IsSessionShown};
 
-use crate::shared::{batch, post, sit};
 use agg_types::{What, Whats};
 use anyhow::{Result, anyhow, ensure};
 use hub::{Hub, Lens, Naming, Pass, PostFault, Receipt};
 use std::alloc::Global;
 use std::sync::Wait;
+use test_hub_calls::{batch, post, sit};
 use test_support::{alone, put};
 
 /// A seat that opened a peer.

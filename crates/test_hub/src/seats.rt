@@ -1,9 +1,9 @@
 //! Seats and places, until none is left.
 
-use crate::shared::{leave, sit};
 use anyhow::Result;
 use hub::{Hub, Naming};
 use std::sync::Wait;
+use test_hub_calls::{leave, sit};
 
 /// Takes seats until none is left, and says how many there were; the first then leaves.
 pub fn fill<J: Naming, H: Wait + Drop, W: Wait>(rt: &W, hub: &Hub<J, H>) -> Result<u32> {

@@ -1,5 +1,0 @@
-use Rattle.test_collector.proofs.examples.run.Given as goal
-
--- the log that was just opened
-abbrev pub ghosts-share : goal.ghosts-share
-ghosts-share g a = record { book = a.opening.of }

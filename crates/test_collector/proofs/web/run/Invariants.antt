@@ -1,5 +1,0 @@
-use Rattle.test_collector.proofs.web.run.Given as goal
-
--- the log that was just opened
-abbrev pub ghosts-show : goal.ghosts-show
-ghosts-show g a = record { book = a.opening.of }
