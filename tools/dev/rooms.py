@@ -16,7 +16,7 @@ import sys
 
 MOST = 120
 LARGE = {
-    "peer_rows": 272, "book": 284, "hub": 213, "agg_types": 215, "test_books": 216, "serve": 199,
+    "peer_rows": 272, "book": 284, "hub": 213, "agg_types": 215, "serve": 199,
     "place_index": 154, "telling": 148, "session_core": 146, "haproxy_import": 147, "standing_filters": 140, "show_clear": 136,
 }
 HEAD = re.compile(r"^\s*(?:pub(?:\([^)]*\))? )?(?:const )?(?:unsafe )?fn ", re.MULTILINE)

@@ -1,6 +1,6 @@
 //! Many keys: windows grow one by one, and places lie in several segments.
 
-use crate::stores::laying::{held, lay_from, thin};
+use crate::laying::{held, lay_from, thin};
 use agg_types::Key;
 use anyhow::Result;
 use place_index::PlaceIndex;

@@ -22,7 +22,7 @@ pub struct Counted {
 }
 
 impl Model for Counted {
-    ghost use Rattle.test_books.specs.declared.falling.pair.Pair.{Pair};
+    ghost use Rattle.test_stores.specs.declared.falling.pair.Pair.{Pair};
 
     ghost Value = { Pair };
 
@@ -48,8 +48,8 @@ impl Counted {
 }
 
 impl Values for Counted {
-    ghost use Rattle.test_books.specs.Pair.{flat_of, living_of, pair_falls, pair_stays};
-    ghost use Rattle.test_books.specs.Pair.{rows_fall, rows_stay, worth_of};
+    ghost use Rattle.test_stores.specs.Pair.{flat_of, living_of, pair_falls, pair_stays};
+    ghost use Rattle.test_stores.specs.Pair.{rows_fall, rows_stay, worth_of};
 
     ghost summed = { λ v table key col t. worth_of v.first v.second t };
 

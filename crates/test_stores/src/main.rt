@@ -2,15 +2,17 @@
 //!
 //! Places: finds, inserts and removes keys, also keys whose hashes choose one window and far more
 //! than one window holds; exchanges values, and lays keys into room that was made for them. Rows:
-//! puts, replaces, takes and clears the rows of two peers and of a hundred, works rows into sums,
-//! lays rows of packed cells where they lie, and ends rows in portions. Rates, at the moments at
-//! which they change, and both kinds of due index on the same entries.
+//! puts, replaces, takes and clears the rows of two peers and of a hundred, lays rows of packed
+//! cells where they lie, and ends rows in portions. Rates, at the moments at which they change, and
+//! both kinds of due index on the same entries. Last a standing filter on a value that falls.
 //!
 //! It shows what no contract says: that these calls succeed while there is memory. Where places or
 //! rows are refused memory once, nothing may have changed, and the same call is made again.
+#![tactic(auto)]
 
 mod crowded;
 mod due;
+mod falling;
 mod growth;
 mod laying;
 mod packing;
@@ -20,12 +22,11 @@ mod portions;
 mod rates;
 mod rooms;
 mod rows;
-mod sums;
 
 use anyhow::Result;
 
 /// Runs each.
-pub fn run(rt: &HostRuntime) -> Result<()> {
+fn run(rt: &HostRuntime) -> Result<()> {
     places::run(rt)?;
     crowded::run(rt)?;
     growth::run(rt)?;
@@ -34,7 +35,11 @@ pub fn run(rt: &HostRuntime) -> Result<()> {
     packing::run(rt)?;
     pages::run(rt)?;
     portions::run(rt, rt.alloc())?;
-    sums::run(rt)?;
     rates::run(rt)?;
-    due::run(rt, rt.alloc())
+    due::run(rt, rt.alloc())?;
+    falling::run(rt, rt.alloc())
+}
+
+fn main(rt: HostRuntime) -> Result<()> {
+    run(&rt)
 }

@@ -1,6 +1,6 @@
 //! Room that is made beforehand, values that are exchanged, and how many places are filled.
 
-use crate::stores::laying::{has_value, key, lay_key};
+use crate::laying::{has_value, key, lay_key};
 use agg_types::Key;
 use anyhow::Result;
 use place_index::PlaceIndex;

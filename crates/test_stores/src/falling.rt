@@ -1,7 +1,14 @@
-//! A key under a standing filter as the clock goes on.
+//! Touches a key whose value falls under a standing filter as the clock goes on. Prints what the
+//! filter holds, when that changes next, and how many values were read.
+//!
+//! It shows what no contract says: that these calls succeed while there is memory, how few values
+//! they read, and that these are all that the values were asked for.
 
 ghost use Rattle.std.specs.Prelude.{◌≤◌, length, IfOk};
 ghost use Rattle.std.specs.List.{All};
+
+mod cases;
+mod pair;
 
 use crate::falling::cases::{CASES, Case};
 use crate::falling::pair::{Counted, Pair};
@@ -23,7 +30,7 @@ pub fn run<R: Print>(rt: &R, alloc: Global) -> Result<()> {
 
 // Two rates of 3 events in the period before, which fall to 0 within the next one. The second
 // period began so many ms before the moment 0.
-fn falling(second: u64, ends: u64) -> Counted {
+fn counted(second: u64, ends: u64) -> Counted {
     Counted::new(Pair {
         first: Rate::arrive(1000, 0, 0, 3, 0),
         second: Rate::arrive(1000, second, 0, 3, 0),
@@ -80,7 +87,7 @@ fn play<R: Print>(rt: &R, alloc: Global, case: &Case) -> Result<()> {
 
 fn judge<R: Print>(rt: &R, alloc: Global, standing: &mut Standing, case: &Case) -> Result<()> {
     let key = Key::copy(alloc, b"k")?;
-    let values = falling(case.second, case.ends);
+    let values = counted(case.second, case.ends);
     let mut flips = Flips::unknown(alloc);
     if case.touched {
         return touch_each(rt, standing, &key, &values, case.moments, &mut flips);

@@ -1,6 +1,6 @@
 //! Keys whose hashes choose one window: what it has no room for goes to the ordered map.
 
-use crate::stores::laying::{has_value, key, lay, thin};
+use crate::laying::{has_value, key, lay, thin};
 use agg_types::{Key, NoMemory};
 use anyhow::Result;
 use place_index::{IndexKey, PlaceIndex};

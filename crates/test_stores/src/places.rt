@@ -1,6 +1,6 @@
 //! A few keys, and the places that they leave and take.
 
-use crate::stores::laying::{lay, lay_key, place};
+use crate::laying::{lay, lay_key, place};
 use agg_types::Key;
 use anyhow::Result;
 use place_index::PlaceIndex;
