@@ -31,7 +31,7 @@ const DRAWN: u32 = 300;
 const CROWD: u16 = 1_000;
 
 /// Two books to which nothing has happened, made once more where an allocation failed.
-fn opened(alloc: Global, fleet: &[u8], often: bool) -> Result<Pair> {
+fn opened(alloc: Global, fleet: &str, often: bool) -> Result<Pair> {
     match Pair::of(alloc, fleet, often) {
         Err(_) => Pair::of(alloc, fleet, often),
         opened => opened,
@@ -74,12 +74,19 @@ fn end(rt: &impl Print, alloc: Global, name: &str, pair: &mut Pair, often: bool)
     Ok(())
 }
 
-/// Worked events, one after the other, which are compared behind each run or only at their end.
-fn play(rt: &impl Print, alloc: Global, list: &Worked, often: bool) -> Result<()> {
-    let mut pair = opened(alloc, list.fleet, often)?;
-    for deed in list.deeds {
+/// Events, one after the other.
+fn take(alloc: Global, pair: &mut Pair, deeds: &[Deed]) -> Result<()> {
+    for deed in deeds {
         pair.happen(alloc, *deed)?;
     }
+    Ok(())
+}
+
+/// Worked events, which are compared behind each run or only at their end.
+fn play(rt: &impl Print, alloc: Global, list: &Worked, often: bool) -> Result<()> {
+    let mut pair = opened(alloc, list.fleet, often)?;
+    take(alloc, &mut pair, list.start)?;
+    take(alloc, &mut pair, list.deeds)?;
     end(rt, alloc, list.name, &mut pair, often)
 }
 
@@ -102,15 +109,11 @@ fn draw(rt: &impl Print, alloc: Global, near: bool, often: bool) -> Result<()> {
 /// Many rows that end in one ms, as the clock comes close and then goes over it.
 fn crowd(rt: &impl Print, alloc: Global) -> Result<()> {
     let mut pair = opened(alloc, MANY, true)?;
-    for deed in [Deed::Sit(0), Deed::Sit(1), Deed::Open(1, 0)] {
-        pair.happen(alloc, deed)?;
-    }
+    take(alloc, &mut pair, worked::ONE_PEER)?;
     for n in 0..CROWD {
         pair.happen(alloc, worked::of_crowd(n))?;
     }
-    for moment in [49, 50] {
-        pair.happen(alloc, Deed::Moment(moment))?;
-    }
+    take(alloc, &mut pair, &[Deed::Moment(49), Deed::Moment(50)])?;
     end(rt, alloc, "crowd", &mut pair, true)
 }
 
@@ -118,6 +121,7 @@ fn crowd(rt: &impl Print, alloc: Global) -> Result<()> {
 /// and 167.
 fn falling(rt: &impl Print, alloc: Global) -> Result<()> {
     let mut pair = opened(alloc, OF_SECONDS, true)?;
+    take(alloc, &mut pair, worked::TWO_PEERS)?;
     for deed in worked::FALLING {
         pair.happen(alloc, *deed)?;
         if let Deed::Moment(moment) = deed {
@@ -130,7 +134,7 @@ fn falling(rt: &impl Print, alloc: Global) -> Result<()> {
 /// Eighty peers with the same few keys.
 fn of_eighty(rt: &impl Print, alloc: Global, often: bool) -> Result<()> {
     let fleet = many_peers::fleet(alloc)?;
-    let mut pair = opened(alloc, fleet.as_bytes(), often)?;
+    let mut pair = opened(alloc, fleet.as_str(), often)?;
     pair.happen(alloc, Deed::Sit(0))?;
     for peer in 0..many_peers::PEERS {
         pair.happen(alloc, Deed::Sit(peer + 1))?;

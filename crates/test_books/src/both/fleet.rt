@@ -12,45 +12,35 @@ use test_support::config;
 /// How many peers there are.
 pub const PEERS: usize = 3;
 
-/// Three peers, a table of addresses and one of strings; the first holds a million rows.
-pub const MANY: &[u8] = b"name agg
-peer lb1
-peer lb2
-peer lb3
-table addresses type ip size 1000000 store gpc0,http_req_rate(10)
+/// Three peers, a table of addresses that holds so many rows of each and one of strings, and
+/// further lines.
+macro_rules! of_three {
+    ($size:literal, $lines:literal) => {
+        concat!(
+            "name agg\npeer lb1\npeer lb2\npeer lb3\ntable addresses type ip size ",
+            $size,
+            " store gpc0,http_req_rate(10)
 table strings type string len 64 size 100 store gpc0,http_req_rate(10)
 filter standing addresses data.gpc0 gt 40
 rank counts addresses gpc0 3
 rank rates strings http_req_rate 3
-";
+",
+            $lines
+        )
+    };
+}
 
-/// The same, but for the first table, which holds six rows.
-pub const FEW: &[u8] = b"name agg
-peer lb1
-peer lb2
-peer lb3
-table addresses type ip size 6 store gpc0,http_req_rate(10)
-table strings type string len 64 size 100 store gpc0,http_req_rate(10)
-filter standing addresses data.gpc0 gt 40
-rank counts addresses gpc0 3
-rank rates strings http_req_rate 3
-";
+/// The first table holds a million rows.
+pub const MANY: &str = of_three!("1000000", "");
 
-/// The same, but for the bound on all rows, which is five.
-pub const BOUNDED: &[u8] = b"name agg
-peer lb1
-peer lb2
-peer lb3
-table addresses type ip size 6 store gpc0,http_req_rate(10)
-table strings type string len 64 size 100 store gpc0,http_req_rate(10)
-filter standing addresses data.gpc0 gt 40
-rank counts addresses gpc0 3
-rank rates strings http_req_rate 3
-rows 5
-";
+/// It holds six rows.
+pub const FEW: &str = of_three!("6", "");
+
+/// It holds six rows, and all tables five together.
+pub const BOUNDED: &str = of_three!("6", "rows 5\n");
 
 /// A fleet whose rates are of a second, with a filter on them.
-pub const OF_SECONDS: &[u8] = b"name agg
+pub const OF_SECONDS: &str = "name agg
 peer lb1
 peer lb2
 table addresses type ip size 6 store gpc0,http_req_rate(1000)
@@ -65,8 +55,8 @@ fn made(alloc: Global, deed: Deed) -> Result<What, NoMemory> {
     }
 }
 
-fn opened(alloc: Global, fleet: &[u8]) -> Result<Book> {
-    Ok(Book::new(alloc, config(alloc, fleet)?, 0)?)
+fn opened(alloc: Global, fleet: &str) -> Result<Book> {
+    Ok(Book::new(alloc, config(alloc, fleet.as_bytes())?, 0)?)
 }
 
 /// Events of one seat that follow one another, under its numbers from a first one on.
@@ -151,7 +141,7 @@ impl Model for Pair {
 impl Pair {
     /// Two books to which nothing has happened, of a fleet whose configuration is told. They are
     /// compared behind each run, or only when that is asked for.
-    pub fn of(alloc: Global, fleet: &[u8], often: bool) -> Result<Pair> {
+    pub fn of(alloc: Global, fleet: &str, often: bool) -> Result<Pair> {
         Ok(Pair {
             single: opened(alloc, fleet)?,
             by_runs: opened(alloc, fleet)?,

@@ -10,9 +10,23 @@ const LONGEST: u64 = (1 << 32) - 1;
 #[derive(Clone, Copy)]
 pub struct Worked {
     pub name: &'static str,
-    pub fleet: &'static [u8],
+    pub fleet: &'static str,
+    /// Who sits and speaks before all else.
+    pub start: &'static [Deed],
     pub deeds: &'static [Deed],
 }
+
+/// Two seats are taken, and the first peer speaks at the second.
+pub const ONE_PEER: &[Deed] = &[Deed::Sit(0), Deed::Sit(1), Deed::Open(1, 0)];
+
+/// Three seats are taken, and a peer speaks at each but the first.
+pub const TWO_PEERS: &[Deed] = &[
+    Deed::Sit(0),
+    Deed::Sit(1),
+    Deed::Sit(2),
+    Deed::Open(1, 0),
+    Deed::Open(2, 1),
+];
 
 /// A seat puts a row of the first table for a peer: its key, its life, and what it counts.
 macro_rules! put {
@@ -35,10 +49,8 @@ macro_rules! put {
 pub const RECONNECT: Worked = Worked {
     name: "reconnect",
     fleet: FEW,
+    start: ONE_PEER,
     deeds: &[
-        Deed::Sit(0),
-        Deed::Sit(1),
-        Deed::Open(1, 0),
         put!(1, 0, 1, None, 50),
         put!(1, 0, 2, Some(9), 41),
         Deed::Leave(1),
@@ -63,12 +75,8 @@ pub const RECONNECT: Worked = Worked {
 pub const SIZE_LIMIT: Worked = Worked {
     name: "size limit",
     fleet: FEW,
+    start: TWO_PEERS,
     deeds: &[
-        Deed::Sit(0),
-        Deed::Sit(1),
-        Deed::Sit(2),
-        Deed::Open(1, 0),
-        Deed::Open(2, 1),
         put!(1, 0, 1, Some(5), 1),
         put!(1, 0, 2, None, 2),
         put!(1, 0, 3, None, 43),
@@ -93,12 +101,8 @@ pub const SIZE_LIMIT: Worked = Worked {
 pub const ROW_BOUND: Worked = Worked {
     name: "row bound",
     fleet: BOUNDED,
+    start: TWO_PEERS,
     deeds: &[
-        Deed::Sit(0),
-        Deed::Sit(1),
-        Deed::Sit(2),
-        Deed::Open(1, 0),
-        Deed::Open(2, 1),
         put!(1, 0, 1, Some(5), 1),
         put!(1, 0, 2, None, 42),
         put!(2, 1, 2, None, 3),
@@ -134,10 +138,8 @@ pub const ROW_BOUND: Worked = Worked {
 const LIVES: Worked = Worked {
     name: "lives",
     fleet: MANY,
+    start: ONE_PEER,
     deeds: &[
-        Deed::Sit(0),
-        Deed::Sit(1),
-        Deed::Open(1, 0),
         Deed::Moment(1_000),
         put!(1, 0, 1, Some(0), 1),
         put!(1, 0, 2, Some(1), 2),
@@ -170,12 +172,8 @@ const LIVES: Worked = Worked {
 pub const DROPS: Worked = Worked {
     name: "drops",
     fleet: FEW,
+    start: TWO_PEERS,
     deeds: &[
-        Deed::Sit(0),
-        Deed::Sit(1),
-        Deed::Sit(2),
-        Deed::Open(1, 0),
-        Deed::Open(2, 1),
         put!(1, 0, 1, Some(30), 41),
         put!(2, 1, 1, Some(10), 24),
         put!(1, 0, 2, Some(30), 48),
@@ -209,12 +207,8 @@ pub const DROPS: Worked = Worked {
 const CLEARS: Worked = Worked {
     name: "clears",
     fleet: FEW,
+    start: TWO_PEERS,
     deeds: &[
-        Deed::Sit(0),
-        Deed::Sit(1),
-        Deed::Sit(2),
-        Deed::Open(1, 0),
-        Deed::Open(2, 1),
         put!(1, 0, 1, Some(30), 20),
         put!(2, 1, 1, Some(10), 21),
         put!(1, 0, 2, Some(30), 40),
@@ -242,11 +236,6 @@ pub const ALL: [Worked; 6] = [RECONNECT, SIZE_LIMIT, ROW_BOUND, LIVES, CLEARS, D
 /// Two peers' rates of 3 a second at one key, one of them half a period old. They sum up to 4 at
 /// first, to 3 from 1 ms on, and to 2 from 167 ms on.
 pub const FALLING: &[Deed] = &[
-    Deed::Sit(0),
-    Deed::Sit(1),
-    Deed::Sit(2),
-    Deed::Open(1, 0),
-    Deed::Open(2, 1),
     Deed::Rate(1, 0, 0, 3),
     Deed::Rate(2, 1, 500, 3),
     Deed::Moment(1),
