@@ -137,9 +137,11 @@ impl<'a> fmt::Display for Source<'a> {
                 address: Some(address),
                 ..
             } => write!(f, " address={}", Network(address)),
-            Event::Alarm(Alarm::HttpAtAdmin {
-                address: Some(address),
-            }) => write!(f, " address={}", Network(address)),
+            Event::Alarm(
+                Alarm::HttpAtAdmin {
+                    address: Some(address),
+                },
+            ) => write!(f, " address={}", Network(address)),
             _ => Ok(()),
         }
     }

@@ -4,7 +4,6 @@ ghost use Rattle.std.specs.Prelude.{◌≡◌, ℕ, IfOk, slice_index_or, true};
 ghost use Rattle.hub.specs.Posts.{Follows, SitsDown};
 ghost use Rattle.serve.specs.Moments.{IsTimed};
 
-
 use crate::admins::{lens_of, seat_of};
 use crate::fleet::moment_in;
 use crate::memory::Turnstile;
@@ -184,7 +183,10 @@ pub fn portions<J: Naming, H: Wait + Drop, R: Wait + Print>(
         open,
         looks: AtomicU64::new(0),
     };
-    println!(rt; "a clock of {:?}, with portions of {portion}:", beats.moments)?;
+    println!(rt;
+        "a clock of {:?}, with portions of {portion}:",
+        beats.moments
+    )?;
     let Some((ending, moment)) = tick(rt, alloc, hub, &beats, &gate) else {
         return Err(anyhow!("no seat or no lens"));
     };

@@ -35,11 +35,7 @@ pub fn index(alloc: Global, config: &Config) -> Result<Vec<u8>, NoMemory> {
 }
 
 // Puts the names of what was declared.
-fn put_names<T: Named>(
-    json: &mut Json,
-    what: &str,
-    entries: &Declared<T>,
-) -> Result<(), NoMemory> {
+fn put_names<T: Named>(json: &mut Json, what: &str, entries: &Declared<T>) -> Result<(), NoMemory> {
     json.begin_list(what)?;
     for entry in entries.as_slice() {
         json.item(entry.name())?;
