@@ -11,7 +11,7 @@ system's or the kit's. What a run with a refused allocation prints is
 
     same    what it prints with enough memory, with the same status
     cut     a beginning of that, with another status
-    told    a beginning of that, then a line with `NoMemory` or that a file wasn't read, and then it goes on or ends
+    told    a beginning of that, then a line with `NoMemory`, and then it goes on or ends
     wrong   anything else: a crash, a hang, another text. It is shown.
 
 A program passes where none is wrong and no more are cut or told than RUNS says. The last line is
@@ -38,11 +38,10 @@ MOST = 250
 LONGEST = 120  # s of one run
 SCRIPTS = "crates/test_replay/data"
 # A name, the program's crate, its words, its standard input where that isn't the crate's, and how many runs may be cut
-# or told: allocations of the program's own, of which no call is made once more, as those that read its words and its
-# configurations. None: any number.
+# or told: allocations of the program's own, of which no call is made once more. Four read its words. None: any number.
 RUNS = {
     "hub": ("test_hub", ["again"], None, 4),
-    "books": ("test_books", ["again"], None, 10),
+    "books": ("test_books", ["again"], None, 4),
     "steps": ("test_replay", ["again"], None, None),
     "texts": ("test_texts", None, None, None),
     "replay": ("aggregator", ["replay"], f"{SCRIPTS}/added_filters.script", None),
@@ -148,8 +147,7 @@ def kind(full, status, out):
         return "cut"
     wanted, lines = full[1].splitlines(), out.splitlines()
     at = next((i for i, line in enumerate(lines) if i >= len(wanted) or line != wanted[i]), None)
-    refusal = at is not None and any(it in lines[at] for it in (b"NoMemory", b"-- not read"))
-    return "told" if refusal else "wrong"
+    return "told" if at is not None and b"NoMemory" in lines[at] else "wrong"
 
 
 def place(full, out):
