@@ -6,6 +6,7 @@ use Rattle.std.specs.Str.{bytes_eq}
 use Rattle.agg_types.specs.Kind.{kind_named, takes_length, with_length}
 use Rattle.agg_types.specs.declared.column.Col.{Col}
 use Rattle.agg_types.specs.declared.config.KeyKind.{KeyKind}
+use Rattle.agg_types.specs.declared.config.KeyKind.TheVariants.{Ip}
 use Rattle.agg_types.specs.declared.limits.TheConstants.{MOST_CONDS}
 use Rattle.line_words.specs.Reader.{◌>>=◌, Left, column, end, keyword, left_of, missing, next_is}
 use Rattle.line_words.specs.Reader.{number, said_by, word, wrong}
@@ -55,10 +56,14 @@ kind_of_length kind left = do
 abbrev pub kind_behind : KeyKind → Left → Result (Result KeyKind Misread × Left) Misread
 kind_behind kind left = if takes_length kind then kind_of_length kind left else Ok (Ok kind, left)
 
--- the name of a kind, and `len <n>` where a declaration gives the kind a length
+-- the kind that a type names; HAProxy from 3.2 on has `ipv4` for `ip`
+abbrev pub type_of : List ℕ → Option KeyKind
+type_of name = if bytes_eq name (codes "ipv4") then Some Ip else kind_named name
+
+-- the type of a kind, and `len <n>` where a declaration gives the kind a length
 unfoldable pub key_kind : Left → Result (Result KeyKind Misread × Left) Misread
 key_kind left = do
-  kind ← said_by Keyword kind_named left
+  kind ← said_by Keyword type_of left
   kind_behind kind.0 kind.1
 
 -- `keep <ms>`, or nothing

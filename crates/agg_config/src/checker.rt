@@ -63,8 +63,8 @@ impl Checker {
         }
     }
 
-    /// The fault of no line, which counts for the one behind the last: that none gives the collector
-    /// its name.
+    /// The fault of no line, which counts for the one behind the last: that none gives the
+    /// collector its name.
     pub fn finish(self) -> Option<LineFault>
         ensures { (lines : List (List ℕ)) → HasJudged self lines → Ends lines result }
     {

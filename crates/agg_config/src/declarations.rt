@@ -5,7 +5,7 @@ ghost use Rattle.line_words.specs.Reader.{Reads};
 ghost use Rattle.agg_config.specs.Declarations.{declared, filter_line, hold, keep, key_kind};
 ghost use Rattle.agg_config.specs.Declarations.{line_declaration, me_line, number_behind};
 ghost use Rattle.agg_config.specs.Declarations.{peer_line, push_line, rank_line, rows_line, shape};
-ghost use Rattle.agg_config.specs.Declarations.{some_behind, table_line};
+ghost use Rattle.agg_config.specs.Declarations.{some_behind, table_line, type_of};
 ghost use Rattle.agg_config.specs.ReadResults.{Gives, GivesWhole};
 ghost use Rattle.agg_config.specs.Reading.{has_list, takes_memory};
 ghost use Rattle.agg_config.specs.declared.causes.Unread.TheVariants.{NoMemory as Refused};
@@ -110,13 +110,25 @@ fn table_line(alloc: Global, words: &mut Words<'_>) -> Result<Declaration, Unrea
     shape(alloc, name, kind, size, keep, cols.as_slice())
 }
 
+/// The kind of keys that a type names, as a line `table .. type <type>` has it: `ip`, `ipv6`,
+/// `integer`, `string` or `binary`, and `ipv4`, as HAProxy has it for `ip` from 3.2 on.
+pub fn type_of(name: &[u8]) -> Option<KeyKind>
+    ensures { result ≡ type_of name.now }
+{
+    if name == b"ipv4".as_slice() {
+        Some(KeyKind::Ip)
+    } else {
+        KeyKind::from_name(name)
+    }
+}
+
 // The kind of keys, or why its length is no number.
 #[tactic(auto, unfolding(crate::specs::Declarations::key_kind))]
 fn key_kind(words: &mut Words<'_>) -> Result<Result<KeyKind, Misread>, Misread>
     ensures { Reads (λ x. x) (key_kind words.old) result words.new }
 {
     let place = words.place();
-    let Some(kind) = KeyKind::from_name(words.word(Expected::Keyword)?) else {
+    let Some(kind) = type_of(words.word(Expected::Keyword)?) else {
         return Err(Misread::wrong(place, Expected::Keyword));
     };
     if !kind.takes_length() {

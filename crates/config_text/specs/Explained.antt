@@ -40,7 +40,7 @@ wants_length words =
 abbrev pub table_word : ℕ → Bool → List ℕ
 table_word place has_len =
     if place == 3 then codes "type"
-    else if place == 4 then codes "ip, ipv6, integer, string or binary"
+    else if place == 4 then codes "ip, ipv4, ipv6, integer, string or binary"
     else if (place == 5) && has_len then codes "len"
     else if (place == 5) || ((place == 7) && has_len) then codes "size"
     else if (place == 7) || ((place == 9) && has_len) then codes "keep or store"

@@ -64,19 +64,8 @@ fn seek<'a>(text: &'a [u8], left: &'a [u8], before: usize, ahead: usize) -> &'a 
     ensures { lines_of result.now ≡ drop ahead (lines_of text.now) }
 {
     if ahead < before {
-        behind_lines(text, ahead)
-    } else {
-        behind_more(text, left, before, ahead)
+        return behind_lines(text, ahead);
     }
-}
-
-// The same where no fewer lines are wanted than stand before what is left.
-fn behind_more<'a>(text: &'a [u8], left: &'a [u8], before: usize, ahead: usize) -> &'a [u8]
-    requires front { lines_of left.now ≡ drop before (lines_of text.now) }
-    requires within { before ≤ ahead }
-    ensures { lines_of result.now ≡ drop ahead (lines_of text.now) }
-{
-    let _ = text;
     behind_lines(left, ahead - before)
 }
 
@@ -209,7 +198,7 @@ fn table_word(place: usize, has_len: bool) -> &'static str
     if place == TYPE_PLACE {
         "type"
     } else if place == KIND_PLACE {
-        "ip, ipv6, integer, string or binary"
+        "ip, ipv4, ipv6, integer, string or binary"
     } else if place == LENGTH_PLACE && has_len {
         "len"
     } else if place == LENGTH_PLACE || place == BEHIND_SIZE && has_len {

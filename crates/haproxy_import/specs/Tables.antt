@@ -10,11 +10,11 @@ use Rattle.std.specs.Result.{result_ok}
 use Rattle.std.specs.Str.{bytes_eq}
 use Rattle.agg_types.specs.Check.{len_fits}
 use Rattle.agg_types.specs.Col.{all_cols, col_name, is_rate}
-use Rattle.agg_types.specs.Kind.{kind_length, kind_named, takes_length, with_length}
+use Rattle.agg_config.specs.Declarations.{type_of}
+use Rattle.agg_types.specs.Kind.{kind_length, takes_length, with_length}
 use Rattle.agg_types.specs.Name.{is_name}
 use Rattle.agg_types.specs.declared.column.Col.{Col}
 use Rattle.agg_types.specs.declared.config.KeyKind.{KeyKind}
-use Rattle.agg_types.specs.declared.config.KeyKind.TheVariants.{Ip}
 use Rattle.agg_types.specs.declared.config.Shape.{Shape}
 use Rattle.agg_types.specs.declared.kind.KeyLength.{KeyLength}
 use Rattle.agg_types.specs.declared.kind.KeyLength.TheVariants.{Exactly, AtMost}
@@ -87,10 +87,6 @@ abbrev pub with_len : KeyKind → List (List ℕ) → Option KeyKind
 with_len kind words =
     if takes_length kind
     then option_map (with_length kind) (len_of (usual_len (kind_length kind)) words) else Some kind
-
--- the kind that a type names; HAProxy from 3.2 on has `ipv4` for `ip`
-abbrev pub type_of : List ℕ → Option KeyKind
-type_of name = if bytes_eq name (codes "ipv4") then Some Ip else kind_named name
 
 -- the kind of keys
 abbrev pub kind_of : List (List ℕ) → Option KeyKind

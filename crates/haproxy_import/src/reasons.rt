@@ -3,8 +3,9 @@
 use crate::columns::Described;
 use crate::page::Page;
 use crate::same::same_table;
-use crate::tables::{kind_of, plain_name, type_of};
+use crate::tables::{kind_of, plain_name};
 use crate::values::value_of;
+use agg_config::type_of;
 use agg_types::limits::{LONGEST_KEY, MOST_TABLES};
 use agg_types::{NoMemory, Shape};
 

@@ -5,11 +5,12 @@ ghost use Rattle.std.specs.List.{list_all};
 ghost use Rattle.line_words.specs.Words.{parts, words};
 ghost use Rattle.haproxy_import.specs.Tables.{cols_by, cols_of, fits, in_list, inside, is_plain};
 ghost use Rattle.haproxy_import.specs.Tables.{item_of, kind_of, len_of, life_of, period_behind};
-ghost use Rattle.haproxy_import.specs.Tables.{plain_name, put_col, shape_of, type_of, usual_len};
+ghost use Rattle.haproxy_import.specs.Tables.{plain_name, put_col, shape_of, usual_len};
 ghost use Rattle.haproxy_import.specs.Tables.{with_len};
 
 use crate::lives::keep_of;
 use crate::values::{ms_of, room_of, value_of, word_of};
+use agg_config::type_of;
 use agg_types::{Col, Items, KeyKind, KeyLength, Name, NoMemory, Shape, is_name};
 use line_words::{next_part, next_word, number};
 use std::alloc::Global;
@@ -47,17 +48,6 @@ pub(crate) fn kind_of(line: &[u8]) -> Option<KeyKind>
     ensures { result ≡ kind_of (words line.now) }
 {
     with_len(type_of(value_of(line, b"type"))?, line)
-}
-
-/// The kind that a type names. HAProxy from 3.2 on has `ipv4` for `ip`.
-pub(crate) fn type_of(name: &[u8]) -> Option<KeyKind>
-    ensures { result ≡ type_of name.now }
-{
-    if name == b"ipv4".as_slice() {
-        Some(KeyKind::Ip)
-    } else {
-        KeyKind::from_name(name)
-    }
 }
 
 // A kind, with the length of its keys where a declaration gives it one.
