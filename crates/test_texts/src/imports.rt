@@ -1,6 +1,7 @@
 //! The configurations that a haproxy.cfg gives. What is printed is read again as the collector
 //! does, and its peers and tables are counted.
 
+use crate::configurations::read;
 use haproxy_import::{ImportFault, import};
 use std::alloc::Global;
 use std::io;
@@ -28,7 +29,7 @@ fn imported(alloc: Global, text: &[u8]) -> Result<Vec<u8>, ImportFault> {
 }
 
 fn print_counts<W: Write>(alloc: Global, text: &[u8], out: &mut W) -> io::Result<()> {
-    match agg_config::read(alloc, text) {
+    match read(alloc, text) {
         Ok(config) => {
             let peers = config.peers.len();
             let tables = config.tables.len();

@@ -55,7 +55,15 @@ fn made(alloc: Global, deed: Deed) -> Result<What, NoMemory> {
     }
 }
 
+// A fleet's book, begun once more where an allocation failed.
 fn opened(alloc: Global, fleet: &str) -> Result<Book> {
+    match begun(alloc, fleet) {
+        Err(_) => begun(alloc, fleet),
+        begun => begun,
+    }
+}
+
+fn begun(alloc: Global, fleet: &str) -> Result<Book> {
     Ok(Book::new(alloc, config(alloc, fleet.as_bytes())?, 0)?)
 }
 

@@ -19,8 +19,15 @@ rank counts addresses gpc0 3
 rank rates strings http_req_rate 3
 ";
 
-/// Its configuration.
+/// Its configuration, made once more where an allocation failed.
 pub fn fleet(alloc: Global) -> Result<String> {
+    match text_of(alloc) {
+        Err(_) => text_of(alloc),
+        text => text,
+    }
+}
+
+fn text_of(alloc: Global) -> Result<String> {
     let mut text = String::new(alloc);
     text.push_str("name agg\n")?;
     for peer in 0..PEERS {
