@@ -1,7 +1,8 @@
 //! Lines that come in floods: which are told, and what is told in place of the others.
 
 use crate::alarms::Alarm;
-use crate::log::{Event, Value, write_time};
+use crate::heading::{Head, Heading};
+use crate::log::{Event, Value};
 use std::alloc::Global;
 use std::net::{IpAddr, Ipv6Addr, SocketAddr};
 use std::{fmt, str};
@@ -47,16 +48,20 @@ impl LeftOut {
 /// The line in place of those that were left out, at a time, in seconds since 1970, without its LF.
 #[derive(Clone, Copy)]
 pub(crate) struct CountLine<'a> {
+    pub heading: Heading,
     pub seconds: u64,
     pub left_out: &'a LeftOut,
 }
 
 impl<'a> fmt::Display for CountLine<'a> {
     fn fmt<W: fmt::Write>(&self, f: &mut fmt::Formatter<W>) -> fmt::Result {
-        write_time(self.seconds, f)?;
         let left_out = self.left_out;
-        let (words, source) = (left_out.words, left_out.source());
-        write!(f, " {words}{source} count={}", left_out.count())
+        let head = Head {
+            heading: self.heading,
+            seconds: self.seconds,
+            words: left_out.words,
+        };
+        write!(f, "{head}{} count={}", left_out.source(), left_out.count())
     }
 }
 

@@ -1,6 +1,7 @@
 //! The lines of the log, on their way to standard error.
 
 use crate::floods::{CountLine, Floods, LeftOut};
+use crate::heading::Heading;
 use crate::log::{Event, Line};
 use sockets::is_due;
 use std::alloc::{AllocError, Global};
@@ -48,6 +49,7 @@ impl Waiting {
 #[derive(Drop)]
 pub struct Journal {
     alloc: Global,
+    heading: Heading,
     waiting: Mutex<Waiting>,
     floods: Mutex<Floods>,
 }
@@ -72,10 +74,11 @@ fn moment_now(rt: &impl Clock) -> u64 {
 }
 
 impl Journal {
-    /// No line waits. Takes no memory.
-    pub fn new(alloc: Global) -> Journal {
+    /// A log whose lines begin so, of which none waits. Takes no memory.
+    pub fn new(alloc: Global, heading: Heading) -> Journal {
         Journal {
             alloc,
+            heading,
             waiting: Mutex::new(Waiting {
                 lines: VecDeque::new(alloc),
                 lost: 0,
@@ -89,7 +92,12 @@ impl Journal {
 
     // The line of an event.
     fn line(&self, seconds: u64, event: Event<'_>) -> Result<String, AllocError> {
-        let line = Line { seconds, event };
+        let heading = self.heading;
+        let line = Line {
+            heading,
+            seconds,
+            event,
+        };
         format!(in self.alloc; "{line}")
     }
 
@@ -165,6 +173,7 @@ impl Journal {
             return;
         };
         let line = Line {
+            heading: self.heading,
             seconds: seconds_now(rt),
             event: Event::LinesLost { count },
         };
@@ -181,6 +190,7 @@ impl Journal {
                 return;
             };
             let line = CountLine {
+                heading: self.heading,
                 seconds: seconds_now(rt),
                 left_out: &left_out,
             };
@@ -231,7 +241,12 @@ impl Journal {
 
     // The line of what was left out.
     fn count_line(&self, seconds: u64, left_out: &LeftOut) -> Result<String, AllocError> {
-        let line = CountLine { seconds, left_out };
+        let heading = self.heading;
+        let line = CountLine {
+            heading,
+            seconds,
+            left_out,
+        };
         format!(in self.alloc; "{line}")
     }
 

@@ -1,15 +1,17 @@
 //! The log: what an operator reads on standard error, a line an event.
 //!
 //! A line is the time in UTC to the second, a level, the event in words, and what it is about as
-//! `key=value`. A value that could be taken for anything else is quoted, and its bytes outside
+//! `key=value`; for journald the level's number stands in place of the time. A value that could be taken for anything else is quoted, and its bytes outside
 //! printable ASCII are escaped, so that a line break that a sender chose begins no line.
 
 use crate::alarms::Alarm;
+use crate::heading::{Head, Heading};
 use crate::judging::Because;
+use agg_types::limits::LONGEST_NAME;
 use command_line::VERSION;
 use hub::PostFault;
-use jiff::Timestamp;
 use serve::Cause;
+use session_core::{SessionCause, Status};
 use std::fmt;
 use std::net::SocketAddr;
 
@@ -132,14 +134,19 @@ impl<'a> Event<'a> {
 /// The line of an event at a time, in seconds since 1970, without its LF.
 #[derive(Clone, Copy)]
 pub(crate) struct Line<'a> {
+    pub heading: Heading,
     pub seconds: u64,
     pub event: Event<'a>,
 }
 
 impl<'a> fmt::Display for Line<'a> {
     fn fmt<W: fmt::Write>(&self, f: &mut fmt::Formatter<W>) -> fmt::Result {
-        write_time(self.seconds, f)?;
-        write!(f, " {}", self.event.words())?;
+        let head = Head {
+            heading: self.heading,
+            seconds: self.seconds,
+            words: self.event.words(),
+        };
+        write!(f, "{head}")?;
         match self.event {
             Event::Listening {
                 peers,
@@ -196,7 +203,13 @@ impl<'a> fmt::Display for Line<'a> {
                 name,
                 address,
                 cause,
-            } => write!(f, "{}{}{}", Named(name), From(address), Why(cause)),
+            } => {
+                write!(f, "{}{}{}", Named(name), From(address), Why(cause))?;
+                match name {
+                    Some(name) if is_unknown(cause) => write!(f, "{}", NoPeer(name)),
+                    _ => Ok(()),
+                }
+            }
             Event::PeerUnknown { name, address } => {
                 write!(f, " name={} address={address}", Value(name))
             }
@@ -218,16 +231,6 @@ impl<'a> fmt::Display for Line<'a> {
             Event::Alarm(alarm) => write!(f, "{alarm}"),
         }
     }
-}
-
-/// Writes the time in UTC. A clock that is wrong by ages gives its seconds.
-pub(crate) fn write_time<W: fmt::Write>(seconds: u64, f: &mut fmt::Formatter<W>) -> fmt::Result {
-    if let Ok(seconds) = i64::try_from(seconds) {
-        if let Ok(time) = Timestamp::from_second(seconds) {
-            return write!(f, "{time}");
-        }
-    }
-    write!(f, "{seconds}")
 }
 
 /// A value, quoted where that is needed.
@@ -283,6 +286,26 @@ impl<'a> fmt::Display for Named<'a> {
             None => Ok(()),
             Some(name) => write!(f, " name={}", Value(name)),
         }
+    }
+}
+
+// Whether a hello was refused since its sender isn't configured.
+fn is_unknown(cause: Option<&Cause>) -> bool {
+    match cause {
+        Some(Cause::Session(cause)) => *cause == SessionCause::Refused(Status::RemoteName),
+        _ => false,
+    }
+}
+
+// Why a hello with this name is refused: the first bytes of the name, escaped.
+#[derive(Clone, Copy)]
+struct NoPeer<'a>(&'a [u8]);
+
+impl<'a> fmt::Display for NoPeer<'a> {
+    fn fmt<W: fmt::Write>(&self, f: &mut fmt::Formatter<W>) -> fmt::Result {
+        let first = self.0.get(..LONGEST_NAME).unwrap_or(self.0);
+        let name = first.escape_ascii();
+        write!(f, " reason=\"no peer {name} is configured\"")
     }
 }
 

@@ -8,7 +8,7 @@ use crate::beside::{Beside, serve_beside};
 use crate::disk::Paths;
 use crate::pulse::{Beats, Pulse};
 use agg_types::{Config, MOST_SEATS, NoMemory};
-use collector_log::{Board, CollectorFacts, Event, Journal, Memory, Notes, Watch};
+use collector_log::{Board, CollectorFacts, Event, Heading, Journal, Memory, Notes, Watch};
 use command_line::Endpoints;
 use hub::{Hub, Naming, Opening};
 use program::{Asked, Fault};
@@ -85,12 +85,22 @@ where
     let Ok(opening) = Opening::new(rt.alloc(), config, 0) else {
         return Stopped::early(Fault::NoMemory);
     };
-    let Ok(journal) = Arc::new(rt.alloc(), Journal::new(rt.alloc())) else {
+    let heading = heading_for(paths);
+    let Ok(journal) = Arc::new(rt.alloc(), Journal::new(rt.alloc(), heading)) else {
         return Stopped::early(Fault::NoMemory);
     };
     let fault = serve::<Brand, R, P, O>(rt, paths, opening, places, endpoints, &journal, output);
     let is_heard = journal.finish(rt);
     Stopped { fault, is_heard }
+}
+
+// How the lines of the log begin.
+fn heading_for(paths: &impl Paths) -> Heading {
+    if paths.logs_to_journald() {
+        Heading::Level
+    } else {
+        Heading::Time
+    }
 }
 
 fn listener<R>(rt: &R, address: SocketAddr) -> Result<TcpListener, Fault>

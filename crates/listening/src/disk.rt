@@ -1,13 +1,14 @@
 //! The files of the machine.
 
 use std::alloc::Global;
+use std::env::Env;
 use std::fs::{DirBuilder, File, Permissions};
 use std::io::{ErrorKind, Read};
 use std::net::Net;
 use std::os::fd::AsRawFd;
-use std::os::unix::fs::{DirBuilderExt, FileTypeExt, PermissionsExt};
+use std::os::unix::fs::{DirBuilderExt, FileTypeExt, MetadataExt, PermissionsExt};
 use std::os::unix::net::{SocketAddr, UnixListener, UnixStream};
-use std::{fs, io};
+use std::{env, fs, io};
 
 /// Who may connect by a socket: its user and its group.
 const MODE: u32 = 0o660;
@@ -26,6 +27,12 @@ const LAST_STANDARD: i32 = 2;
 /// The code of the system for an address that is in use.
 const IN_USE: i32 = 98;
 
+/// The variable that names the device and the inode of what journald reads.
+const JOURNAL: &str = "JOURNAL_STREAM";
+
+/// Where standard error is found.
+const STANDARD_ERROR: &str = "/proc/self/fd/2";
+
 /// Where sockets are made by their paths.
 pub trait Paths {
     /// What keeps descriptors in use.
@@ -37,6 +44,10 @@ pub trait Paths {
     /// Takes the descriptors of standard input, output and error that are closed, so that nothing
     /// else gets them for as long as what it answers is kept.
     fn take_standard(&self) -> Self::Kept;
+
+    /// Whether what is written to standard error goes to journald, which says so in the
+    /// environment.
+    fn logs_to_journald(&self) -> bool;
 }
 
 /// The files of the machine, by their paths.
@@ -190,7 +201,15 @@ impl<R: fs::Files<File = File> + Net + AllocGlobal> Disk<R> {
     }
 }
 
-impl<R: fs::Files<File = File> + Net + AllocGlobal> Paths for Disk<R> {
+// Whether a text names this device and this inode, as `<device>:<inode>`.
+fn names(text: &str, device: u64, inode: u64) -> bool {
+    let Some((first, second)) = text.split_once(':') else {
+        return false;
+    };
+    first.parse() == Ok(device) && second.parse() == Ok(inode)
+}
+
+impl<R: fs::Files<File = File> + Net + Env + AllocGlobal> Paths for Disk<R> {
     type Kept = Standard;
 
     fn listen(&self, path: &str) -> io::Result<UnixListener> {
@@ -206,6 +225,16 @@ impl<R: fs::Files<File = File> + Net + AllocGlobal> Paths for Disk<R> {
             first: self.take_one(),
             second: self.take_one(),
             third: self.take_one(),
+        }
+    }
+
+    fn logs_to_journald(&self) -> bool {
+        let Ok(stream) = env::var(&self.rt, JOURNAL) else {
+            return false;
+        };
+        match fs::metadata(&self.rt, STANDARD_ERROR) {
+            Err(_) => false,
+            Ok(found) => names(stream.as_str(), found.dev(), found.ino()),
         }
     }
 }

@@ -6,7 +6,7 @@ ghost use Rattle.agg_types.specs.Check.{config_faults};
 use crate::scene::Still;
 use agg_types::{Cell, Cells, Config, Key, NoMemory, What};
 use book::Book;
-use collector_log::{Fullness, Journal, Notes, append_peers};
+use collector_log::{Fullness, Heading, Journal, Notes, append_peers};
 use std::alloc::Global;
 use std::io;
 use std::io::Write;
@@ -101,7 +101,7 @@ pub fn show<R: Print + Wait + Copy + AllocGlobal>(
     let Ok(mut book) = opened(alloc, config) else {
         return println!(rt; "no book");
     };
-    let journal = Journal::new(alloc);
+    let journal = Journal::new(alloc, Heading::Time);
     if play(&journal, notes, &mut book).is_err() {
         return println!(rt; "out of memory");
     }

@@ -3,7 +3,7 @@
 use crate::scene::{Few, Still};
 use crate::{full, status};
 use agg_types::Whats;
-use collector_log::{Board, Event, Journal, Notes};
+use collector_log::{Board, Event, Heading, Journal, Notes};
 use hub::PostFault;
 use serve::{Cause, Gate, Gone, News, Place};
 use session_core::{SessionCause, Status};
@@ -21,6 +21,9 @@ filter hot clients data.gpc0 ge 1\npush hot\n";
 
 /// 2026-11-24 at 09:45:12 in UTC.
 const MORNING: u64 = 1_795_513_512;
+
+/// A name longer than any that may be configured.
+const LONG: [u8; 130] = [b'x'; 130];
 
 /// Moments around leap days, and one past the last year that is written in full.
 const MOMENTS: [u64; 6] = [
@@ -135,6 +138,8 @@ fn show_lines<R: Print + Wait + Copy + AllocGlobal>(
     show_unknown(notes.connections, notes);
     notes.journal.write_out(&notes.rt);
     show_moments(rt);
+    show_levels(rt);
+    show_no_peers(rt);
     show_crowd(rt);
     show_floods(rt);
     full::show(rt, notes)
@@ -149,7 +154,7 @@ pub fn show<R: Print + Wait + Copy + AllocGlobal>(rt: &R) -> io::Result<()> {
     let Ok(board) = Board::new(rt.alloc(), 3) else {
         return println!(rt; "no board");
     };
-    let journal = Journal::new(rt.alloc());
+    let journal = Journal::new(rt.alloc(), Heading::Time);
     let connections = Connections::new(rt.alloc());
     let morning = Still {
         rt: *rt,
@@ -247,7 +252,7 @@ fn show_stranger<R: Print + Wait>(
 /// What is written of 1,005 lines that come while standard error takes none: how many were lost,
 /// and then those that waited, of which all but the first two are cut off here.
 fn show_crowd<R: Print + Wait + Copy + AllocGlobal>(rt: &R) {
-    let journal = Journal::new(rt.alloc());
+    let journal = Journal::new(rt.alloc(), Heading::Time);
     let handles = Still {
         rt: *rt,
         seconds: Some(MORNING),
@@ -264,7 +269,7 @@ fn show_crowd<R: Print + Wait + Copy + AllocGlobal>(rt: &R) {
 /// a peer, 60 of 64 bits of an address, and 600 of all addresses. And how many others there were,
 /// 59 s later.
 fn show_floods<R: Print + Wait + Copy + AllocGlobal>(rt: &R) {
-    let journal = Journal::new(rt.alloc());
+    let journal = Journal::new(rt.alloc(), Heading::Time);
     let handles = Still {
         rt: *rt,
         seconds: Some(MORNING),
@@ -308,6 +313,38 @@ fn flood(
     journal.note(clock, stranger);
 }
 
+/// Lines of each level, as journald reads them.
+fn show_levels<R: Print + Wait + Copy + AllocGlobal>(rt: &R) {
+    let journal = Journal::new(rt.alloc(), Heading::Level);
+    let handles = Still {
+        rt: *rt,
+        seconds: Some(MORNING),
+    };
+    journal.note(&handles, Event::PeerConnected { peer: b"lb1" });
+    journal.note(&handles, Event::AdminTurnedAway { address: None });
+    journal.note(&handles, Event::PeerTurnedAway { address: None });
+    journal.write_out(&handles);
+}
+
+/// Hellos that are refused since their senders aren't configured.
+fn show_no_peers<R: Print + Wait + Copy + AllocGlobal>(rt: &R) {
+    let journal = Journal::new(rt.alloc(), Heading::Time);
+    let handles = Still {
+        rt: *rt,
+        seconds: Some(MORNING),
+    };
+    let cause = Cause::Session(SessionCause::Refused(Status::RemoteName));
+    for name in [b"lb9".as_slice(), b"a\"b\n".as_slice(), LONG.as_slice()] {
+        let stranger = Event::StrangerGone {
+            name: Some(name),
+            address: None,
+            cause: Some(&cause),
+        };
+        journal.note(&handles, stranger);
+    }
+    journal.write_out(&handles);
+}
+
 /// The same line at odd moments, and where the clock fails.
 fn show_moments<R: Print + Wait + Copy + AllocGlobal>(rt: &R) {
     for moment in MOMENTS {
@@ -317,7 +354,7 @@ fn show_moments<R: Print + Wait + Copy + AllocGlobal>(rt: &R) {
 }
 
 fn show_moment<R: Print + Wait + Copy + AllocGlobal>(rt: &R, seconds: Option<u64>) {
-    let journal = Journal::new(rt.alloc());
+    let journal = Journal::new(rt.alloc(), Heading::Time);
     let handles = Still { rt: *rt, seconds };
     journal.note(&handles, Event::PeerConnected { peer: b"lb1" });
     journal.write_out(&handles);

@@ -216,6 +216,10 @@ impl Paths for Shelf {
 
     fn take_standard(&self) {}
 
+    fn logs_to_journald(&self) -> bool {
+        false
+    }
+
     fn listen(&self, _path: &str) -> io::Result<UnixListener> {
         Err(io::Error::from(ErrorKind::AddrInUse))
     }

@@ -1,7 +1,7 @@
 //! When a collector counts as stuck, and lines of the log on that and on HTTP.
 
 use crate::scene::Still;
-use collector_log::{Alarm, Event, Journal};
+use collector_log::{Alarm, Event, Heading, Journal};
 use listening::{Patience, Round, Signs};
 use program::Stuck;
 use sockets::{Admins, HttpCall};
@@ -138,7 +138,7 @@ fn show_course(rt: &impl Print, course: Course) -> io::Result<()> {
 
 /// Prints the lines of a collector that is stuck, and of connections that were HTTP's.
 fn show_alarms<R: Print + Wait + Copy + AllocGlobal>(rt: &R) {
-    let journal = Journal::new(rt.alloc());
+    let journal = Journal::new(rt.alloc(), Heading::Time);
     let handles = Still {
         rt: *rt,
         seconds: Some(MORNING),

@@ -11,6 +11,7 @@ use anyhow::{Result, anyhow};
 use collector_log::Memory;
 use listening::Disk;
 use std::alloc::Global;
+use std::env::Env;
 use std::fs::{File, Files};
 use std::io::{BufReader, Read, Write};
 use std::net::{Ipv4Addr, Net, SocketAddr, SocketAddrV4, TcpListener, TcpStream};
@@ -195,7 +196,7 @@ pub fn collect<R>(rt: &R, peers: SocketAddr, admin: SocketAddr) -> Result<u8>
 where
     R: Threads + Wait + Copy + Send + Sync + 'static,
     R: Input + Print + Eprint + AllocGlobal + Clock + RandomSource + Memory,
-    R: Net<Listener = TcpListener, Stream = TcpStream> + Files<File = File>,
+    R: Net<Listener = TcpListener, Stream = TcpStream> + Files<File = File> + Env,
 {
     let peers = format!(in rt.alloc(); "--peers={peers}")?;
     let admin = format!(in rt.alloc(); "--admin={admin}")?;
