@@ -4,6 +4,8 @@ use crate::connections::Connections;
 use crate::faults::{lacks, passes};
 use crate::http_calls::{HttpCall, HttpCalls};
 use crate::streams::Stream;
+use crate::ticks::Ticks;
+use crate::turns::Turns;
 use std::alloc::Global;
 use std::io;
 use std::io::ErrorKind;
@@ -48,6 +50,8 @@ pub struct Admins {
     ahead: Mutex<Option<Call>>,
     // those that were ended at a line of HTTP
     http: Mutex<HttpCalls>,
+    // when they may look
+    turns: Turns,
 }
 
 // How long is rested after an accept that failed. Where a connection waits whose end helps, that
@@ -100,6 +104,7 @@ impl Admins {
             turn: Mutex::new(0),
             ahead: Mutex::new(None),
             http: Mutex::new(HttpCalls::new(alloc)),
+            turns: Turns::new(),
         }
     }
 
@@ -163,6 +168,20 @@ impl Admins {
             rt.sleep(Duration::from_millis(rest));
         }
         unreachable!()
+    }
+
+    /// An answer was made from one moment to another, in ms.
+    pub(crate) fn looked<R: Wait>(&self, rt: &R, begun: u64, ended: u64) {
+        self.turns.looked(rt, begun, ended);
+    }
+
+    /// Waits until operators may look, or the doors are closed.
+    pub(crate) fn wait_for_turn<R: Clock + Wait>(
+        &self,
+        clock: &Ticks<R>,
+        connections: &Connections,
+    ) {
+        self.turns.wait(clock, connections);
     }
 
     /// A connection from this address was ended at a line of HTTP, at a moment, in ms.

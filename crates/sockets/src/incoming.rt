@@ -4,7 +4,7 @@ ghost use Rattle.std.specs.Prelude.{◌≡◌, ◌≤◌, length};
 ghost use Rattle.serve.specs.Sources.{IsWithin};
 
 use crate::greeting::Hello;
-use crate::line_head::LineHead;
+use crate::line_head::{Line, LineHead};
 use crate::pace::Pace;
 use crate::streams::Stream;
 use crate::ticks::Ticks;
@@ -204,42 +204,37 @@ impl<'a, R: Clock + Wait> Incoming<'a, R> {
         }
     }
 
-    // Whether what came of an admin ends a line of HTTP. Then nothing is given or read any more.
-    fn ends_http(&mut self, came: Came, buffer: &[u8]) -> bool
+    // Takes note of bytes that came, of an admin: whether they may be given. Where they end a line
+    // of HTTP, nothing is given or read any more.
+    fn admits(&mut self, piece: &[u8]) -> bool
         ensures reads { self.new.reads ≡ self.old.reads }
         ensures failed { self.new.failed ≡ self.old.failed }
     {
-        let Some(pace) = &self.pace else {
-            return false;
+        let Some(pace) = &mut self.pace else {
+            return true;
         };
-        let Came::Bytes(count) = came else {
-            return false;
-        };
-        let Some(piece) = buffer.get(..count) else {
-            return false;
-        };
-        if !self.head.ends_http(piece) {
-            return false;
+        let line = self.head.ends(piece);
+        if line != Some(Line::Http) {
+            pace.note_piece(line);
+            return true;
         }
         pace.note_http(self.sender);
         self.taken = self.end;
         self.is_over = true;
-        true
+        false
     }
 
-    // Notes what came, of an admin.
-    fn note(&mut self, came: Came, buffer: &[u8])
+    // The same of what a read came to.
+    fn admits_what(&mut self, came: Came, buffer: &[u8]) -> bool
         ensures reads { self.new.reads ≡ self.old.reads }
         ensures failed { self.new.failed ≡ self.old.failed }
     {
         let Came::Bytes(count) = came else {
-            return;
+            return true;
         };
-        let Some(last) = buffer.get(count.saturating_sub(1)) else {
-            return;
-        };
-        if let Some(pace) = &mut self.pace {
-            pace.note_piece(*last);
+        match buffer.get(..count) {
+            Some(piece) if count > 0 => self.admits(piece),
+            _ => true,
         }
     }
 }
@@ -260,10 +255,9 @@ impl<'a, R: Clock + Wait> Source for Incoming<'a, R> {
         }
         match self.next(buffer) {
             Ok(came) => {
-                if self.ends_http(came, buffer) {
+                if !self.admits_what(came, buffer) {
                     return Ok(Came::End);
                 }
-                self.note(came, buffer);
                 Ok(came)
             }
             Err(ReadFailed) => {

@@ -20,6 +20,7 @@ mod pace;
 mod sockets;
 mod streams;
 mod ticks;
+mod turns;
 mod unknown;
 mod waiter;
 

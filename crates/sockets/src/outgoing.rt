@@ -1,13 +1,13 @@
 //! What is sent to peers and operators.
 
 use crate::connections::Connections;
-use crate::pace::{Begun, is_in_time};
+use crate::pace::Answers;
 use crate::streams::Stream;
 use crate::ticks::Ticks;
 use std::alloc::Global;
 use std::io;
 use std::io::{ErrorKind, Write};
-use std::sync::Arc;
+use std::sync::{Arc, Wait};
 use std::time::Clock;
 
 /// How long a write waits for a peer that takes nothing, in ms.
@@ -20,19 +20,18 @@ pub struct Outgoing<'a, R> {
     pub(crate) clock: &'a Ticks<R>,
     pub(crate) connections: &'a Connections,
     // When the present answer was begun, of an admin's.
-    pub(crate) begun: Option<Begun>,
+    pub(crate) answers: Option<Answers<'a>>,
 }
 
-impl<'a, R: Clock> Outgoing<'a, R> {
+impl<'a, R: Clock + Wait> Outgoing<'a, R> {
     // Whether a write that began at a moment may go on.
     fn may_write(&self, first: u64) -> bool {
         if self.connections.are_closed() {
             return false;
         }
-        let now = self.clock.moment();
-        match &self.begun {
-            None => now.saturating_sub(first) < WRITE_LIMIT,
-            Some(begun) => is_in_time(begun, now),
+        match &self.answers {
+            None => self.clock.moment().saturating_sub(first) < WRITE_LIMIT,
+            Some(answers) => answers.are_in_time(self.clock),
         }
     }
 }
@@ -48,7 +47,7 @@ fn is_to_wait(written: &io::Result<usize>) -> bool {
     }
 }
 
-impl<'a, R: Clock> Write for Outgoing<'a, R> {
+impl<'a, R: Clock + Wait> Write for Outgoing<'a, R> {
     fn write(&mut self, bytes: &[u8]) -> io::Result<usize> {
         let first = self.clock.moment();
         for _ in 0..u64::MAX {

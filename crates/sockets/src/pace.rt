@@ -1,6 +1,8 @@
 //! The time that an operator's connection has.
 
 use crate::admins::Admins;
+use crate::connections::Connections;
+use crate::line_head::Line;
 use crate::ticks::Ticks;
 use std::alloc::Global;
 use std::net::SocketAddr;
@@ -18,8 +20,50 @@ const ANSWER_LIMIT: u64 = 30_000;
 /// After so long a connection ends behind its present answer where another one waits, in ms.
 const TURN_LIMIT: u64 = 60_000;
 
-/// The moment at which an answer was begun, and one more; 0 where none is being written.
-pub type Begun = Arc<AtomicU64, Global>;
+/// When the present question of an operator was given to who answers it, and when the writing of
+/// the answer began: moments in ms, and one more; 0 where there is none.
+#[derive(Drop)]
+pub struct Times {
+    asked: AtomicU64,
+    begun: AtomicU64,
+}
+
+impl Times {
+    /// Nothing was asked.
+    pub fn new() -> Times {
+        Times {
+            asked: AtomicU64::new(0),
+            begun: AtomicU64::new(0),
+        }
+    }
+}
+
+/// The times of a connection, for who writes to it.
+#[derive(Drop)]
+pub struct Answers<'a> {
+    pub admins: &'a Admins,
+    pub times: Arc<Times, Global>,
+}
+
+impl<'a> Answers<'a> {
+    /// Whether an answer still may be written. It begins with the first write; how long it took to
+    /// make is noted then.
+    pub fn are_in_time<R: Clock + Wait>(&self, clock: &Ticks<R>) -> bool {
+        let now = clock.moment();
+        let first = self.times.begun.load(Ordering::SeqCst);
+        if first != 0 {
+            return now.saturating_sub(first) < ANSWER_LIMIT;
+        }
+        self.times
+            .begun
+            .store(now.saturating_add(1), Ordering::SeqCst);
+        let asked = self.times.asked.swap(0, Ordering::SeqCst);
+        if asked != 0 {
+            self.admins.looked(&clock.rt, asked.saturating_sub(1), now);
+        }
+        true
+    }
+}
 
 /// How long an operator's connection is served, how long its present line takes, and how long its
 /// present answer.
@@ -27,7 +71,8 @@ pub type Begun = Arc<AtomicU64, Global>;
 pub struct Pace<'a, R> {
     clock: &'a Ticks<R>,
     admins: &'a Admins,
-    begun: Begun,
+    connections: &'a Connections,
+    times: Arc<Times, Global>,
     // when it was accepted
     came: u64,
     // from when on its present line counts, or the silence before one
@@ -40,12 +85,18 @@ pub struct Pace<'a, R> {
 
 impl<'a, R: Clock + Wait> Pace<'a, R> {
     /// Of a connection that has just been accepted.
-    pub fn new(clock: &'a Ticks<R>, admins: &'a Admins, begun: Begun) -> Pace<'a, R> {
+    pub fn new(
+        clock: &'a Ticks<R>,
+        admins: &'a Admins,
+        connections: &'a Connections,
+        times: Arc<Times, Global>,
+    ) -> Pace<'a, R> {
         let now = clock.moment();
         Pace {
             clock,
             admins,
-            begun,
+            connections,
+            times,
             came: now,
             since: now,
             is_in_line: false,
@@ -56,7 +107,7 @@ impl<'a, R: Clock + Wait> Pace<'a, R> {
     /// The connection is about to be read: whether it still may. All its lines so far were
     /// answered.
     pub fn goes_on(&mut self) -> bool {
-        self.begun.store(0, Ordering::SeqCst);
+        self.times.begun.store(0, Ordering::SeqCst);
         let now = self.clock.moment();
         let was_answered = self.has_ended;
         if was_answered {
@@ -78,23 +129,26 @@ impl<'a, R: Clock + Wait> Pace<'a, R> {
         self.admins.note_http(&self.clock.rt, now, sender);
     }
 
-    /// A piece of a line came, of which this is the last byte.
-    pub fn note_piece(&mut self, last: u8) {
-        if last == b'\n' {
-            self.has_ended = true;
-        } else if !self.is_in_line {
-            self.is_in_line = true;
-            self.since = self.clock.moment();
+    /// A piece of a line came, which ends the line, of this kind, or doesn't. A question waits
+    /// until operators may look.
+    pub fn note_piece(&mut self, line: Option<Line>) {
+        match line {
+            Some(Line::Question) => {
+                self.has_ended = true;
+                self.admins.wait_for_turn(self.clock, self.connections);
+                let now = self.clock.moment();
+                let asked = &self.times.asked;
+                asked.store(now.saturating_add(1), Ordering::SeqCst);
+            }
+            Some(_) => {
+                self.has_ended = true;
+                self.times.asked.store(0, Ordering::SeqCst);
+            }
+            None if !self.is_in_line => {
+                self.is_in_line = true;
+                self.since = self.clock.moment();
+            }
+            None => {}
         }
     }
-}
-
-/// Whether an answer still may be written at this moment. It begins with the first write.
-pub fn is_in_time(begun: &Begun, now: u64) -> bool {
-    let first = begun.load(Ordering::SeqCst);
-    if first == 0 {
-        begun.store(now.saturating_add(1), Ordering::SeqCst);
-        return true;
-    }
-    now.saturating_sub(first) < ANSWER_LIMIT
 }

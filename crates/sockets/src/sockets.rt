@@ -7,7 +7,7 @@ use crate::greeting::{Greeting, Hello, read_hello};
 use crate::incoming::Incoming;
 use crate::line_head::LineHead;
 use crate::outgoing::Outgoing;
-use crate::pace::{Begun, Pace};
+use crate::pace::{Answers, Pace, Times};
 use crate::streams::Stream;
 use crate::ticks::Ticks;
 use crate::waiter::Waiter;
@@ -17,7 +17,6 @@ use serve::{Caller, Door, Doors, Faulted, Served};
 use std::alloc::Global;
 use std::io;
 use std::net::{SocketAddr, TcpListener};
-use std::sync::atomic::AtomicU64;
 use std::sync::{Arc, Wait};
 use std::time::{Clock, Duration};
 
@@ -61,7 +60,7 @@ impl<'a, R: Clock + Wait> Sockets<'a, R> {
         stream: Arc<Stream, Global>,
         sender: Option<SocketAddr>,
         waiter: Option<Waiter<'a, R>>,
-        begun: Option<Begun>,
+        answers: Option<Answers<'a>>,
     ) -> io::Result<Visitor<'a, R>> {
         stream.send_at_once()?;
         stream.set_write_timeout(Duration::from_millis(SOCKET_LIMIT))?;
@@ -70,7 +69,7 @@ impl<'a, R: Clock + Wait> Sockets<'a, R> {
             stream: Arc::try_clone(&stream)?,
             clock: self.clock,
             connections: self.connections,
-            begun,
+            answers,
         };
         let id = match &waiter {
             None => 0,
@@ -118,11 +117,16 @@ impl<'a, R: Clock + Wait> Sockets<'a, R> {
     // An operator's connection that came. None where memory is lacking, or it is gone.
     fn operator(&self, stream: Stream, sender: Option<SocketAddr>) -> Option<Visitor<'a, R>> {
         let stream = Arc::new(self.alloc, stream).ok()?;
-        let begun = Arc::new(self.alloc, AtomicU64::new(0)).ok()?;
-        let mine = Arc::try_clone(&begun).ok()?;
-        let Caller { mut source, writer } = self.caller(stream, sender, None, Some(begun)).ok()?;
+        let times = Arc::new(self.alloc, Times::new()).ok()?;
+        let mine = Arc::try_clone(&times).ok()?;
+        let answers = Answers {
+            admins: self.admins,
+            times,
+        };
+        let caller = self.caller(stream, sender, None, Some(answers));
+        let Caller { mut source, writer } = caller.ok()?;
         source.held.resize(ROOM, 0).ok()?;
-        source.pace = Some(Pace::new(self.clock, self.admins, mine));
+        source.pace = Some(Pace::new(self.clock, self.admins, self.connections, mine));
         Some(Caller { source, writer })
     }
 
