@@ -35,7 +35,7 @@ use Rattle.ranked.specs.Walk.{found, put_all, worth}
 abbrev Entries : Type 0
 Entries = List (List ℕ × ℕ)
 
-abbrev with_value : (List ℕ → ℕ) → List ℕ → List ℕ × ℕ
+abbrev pub with_value : (List ℕ → ℕ) → List ℕ → List ℕ × ℕ
 with_value value key = (key, value key)
 
 -- ---- putting all, one after the other
@@ -119,7 +119,7 @@ among_valued value keys q =
     entry_among value q (map (with_value value) keys) (valued value keys)
     ∙ ap (λ ks. is_key_among q.0 ks && (value q.0 == q.1)) (keys_valued value keys)
 
-distinct-filter : (p : List ℕ → Bool) (keys : List (List ℕ)) → IsDistinct same_key keys
+pub distinct-filter : (p : List ℕ → Bool) (keys : List (List ℕ)) → IsDistinct same_key keys
     → IsDistinct same_key (filter p keys)
 unfolding IsDistinct
 distinct-filter p [] h = tt
@@ -131,7 +131,7 @@ distinct-filter p (key ∷ keys) h = by (p key) (distinct-filter p keys h.1)
     by false rest = rest
 
 -- two lists of keys that differ, with the same members, have one ranking
-same_ranking : (value : List ℕ → ℕ) (keys others : List (List ℕ)) → IsDistinct same_key keys
+pub same_ranking : (value : List ℕ → ℕ) (keys others : List (List ℕ)) → IsDistinct same_key keys
     → IsDistinct same_key others → ((q : List ℕ) → is_key_among q keys ≡ is_key_among q others)
     → put_all [] (map (with_value value) keys) ≡ in_order rank_cmp (map (with_value value) others)
 unfolding IsStrictlySortedBy

@@ -1,3 +1,4 @@
+pub mod Best
 pub mod Bounds
 pub mod Leaders
 pub mod Walk

@@ -7,6 +7,7 @@ ghost use Rattle.place_index.specs.Places.{key_at, in_order, AreDistinct};
 ghost use Rattle.ranked.specs.Bounds.{AreAllBounded, AreOthersKept, IsByKey, IsListOf, bound_at};
 ghost use Rattle.ranked.specs.Bounds.{first_ranked, zeros_at};
 
+use crate::looks::looks_at_most;
 use crate::slack::{serves, zeros_for};
 use crate::{Ranked, Wanted};
 use agg_types::{Key, NoMemory};
@@ -150,6 +151,20 @@ impl Bounds {
         ensures ordered { IsByKey self.now }
     {
         Ranked::new(alloc, &self.index, wanted, values)
+    }
+
+    /// Whether that list looks at no more than so many keys until it has given all. It is tried, at
+    /// so many at most. No clause says so: it is for who has another way to the same keys.
+    pub fn looks_at_most<V: Values>(
+        &self,
+        alloc: Global,
+        wanted: Wanted,
+        values: &V,
+        most: usize,
+    ) -> Result<bool, NoMemory>
+        requires { wanted.n ≤ LONGEST_RANK }
+    {
+        looks_at_most(alloc, &self.index, wanted, values, most)
     }
 }
 

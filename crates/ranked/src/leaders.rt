@@ -101,4 +101,18 @@ impl Leaders {
     {
         self.lists[list].top(alloc, wanted, values)
     }
+    /// Whether that list looks at no more than so many keys, as `Bounds::looks_at_most` tries it.
+    pub fn looks_at_most<V: Values>(
+        &self,
+        alloc: Global,
+        list: usize,
+        wanted: Wanted,
+        values: &V,
+        most: usize,
+    ) -> Result<bool, NoMemory>
+        requires there { list < length self.now }
+        requires short { wanted.n ≤ LONGEST_RANK }
+    {
+        self.lists[list].looks_at_most(alloc, wanted, values, most)
+    }
 }
