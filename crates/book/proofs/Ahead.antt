@@ -45,7 +45,7 @@ abbrev same : List ℕ → List ℕ → Bool
 same = eq_by_cmp (slice_cmp nat_cmp)
 
 -- the rows of each key of a walk
-walk_rows : (rows : Rows) (table : ℕ) (walk : Keys) → IsEachKeyOf rows table walk
+pub walk_rows : (rows : Rows) (table : ℕ) (walk : Keys) → IsEachKeyOf rows table walk
     → AllByRecursion (λ e. map (of_peer table e.0) e.1 ≡ key_rows rows table e.0) walk
 walk_rows rows table walk each =
     each_place (λ e. map (of_peer table e.0) e.1 ≡ key_rows rows table e.0) walk

@@ -7,7 +7,7 @@ use Rattle.agg_types.specs.declared.config.Filter.{Filter}
 use Rattle.crossing.specs.First.{IsFirstFrom}
 use Rattle.fleet_model.specs.Answers.{rows_of}
 use Rattle.fleet_model.specs.Changes.{IsKeyChange}
-use Rattle.fleet_model.specs.Keys.{AreLiveAt, Rows, holds, is_at_key, key_rows}
+use Rattle.fleet_model.specs.Keys.{AreLiveAt, Rows, is_at_key, key_rows}
 use Rattle.fleet_model.specs.Moments.{is_live}
 use Rattle.fleet_model.specs.Sound.{IsSound}
 use Rattle.fleet_model.specs.State.{State}

@@ -14,6 +14,7 @@ pub mod Judging
 pub mod Dropped
 pub mod Together
 pub mod Prepared
+pub mod Ranks
 pub mod Updates
 pub mod Following
 pub mod FewReads

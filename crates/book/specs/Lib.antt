@@ -21,3 +21,4 @@ pub mod Gone
 pub mod ByPeer
 pub mod Foretold
 pub mod First
+pub mod Ranks

@@ -352,13 +352,14 @@ impl Book {
         self.verdicts.standing.keys(filter)
     }
 
-    /// The ranked list at a position of the configuration, found by bounds on the values of keys.
-    /// Takes memory for as many keys as it may have.
+    /// The ranked list at a position of the configuration, found by bounds on the values of keys, or
+    /// in one walk of its table's rows where bounds lead to many keys. Takes memory for as many keys
+    /// as it may have.
     pub fn top(&self, alloc: Global, rank: usize) -> Result<Ranked<'_>, NoMemory>
         requires { rank < length self.now.config.ranks }
         ensures { IfOk result (λ entries. entries ≡ ranked self.now (rank_of self.now rank)) }
     {
-        Ok(Ranked::new(self.machine.top(alloc, rank, usize::MAX)?))
+        self.machine.top(alloc, rank, usize::MAX)
     }
 
     /// The first so many keys of that list: who wants few of them pays for these alone, in memory
@@ -368,7 +369,7 @@ impl Book {
         ensures { IfOk result
             (λ entries. entries ≡ take most (ranked self.now (rank_of self.now rank))) }
     {
-        Ok(Ranked::new(self.machine.top(alloc, rank, most)?))
+        self.machine.top(alloc, rank, most)
     }
 
     /// The first moment above the book's, in ms, at which a filter holds other keys than now, if

@@ -204,7 +204,8 @@ pub fn drop_gone(
     ensures count { length leaders.new ≡ length leaders.old }
     ensures led { StaysLed ranks.now rows.now.rows t leaders.old rows.now.rows t leaders.new }
 {
-    if is_ranked(ranks, table) && live_rows(rows, table, key, t) == 0 {
+    let is_ranked = ranks.iter().any(|rank| rank.table == table);
+    if is_ranked && live_rows(rows, table, key, t) == 0 {
         drop_bounds(leaders, ranks, table, key);
     }
 }
@@ -223,9 +224,4 @@ pub fn drop_ended(
     for (table, key) in gone {
         drop_gone(leaders, ranks, rows, t, *table, key);
     }
-}
-
-// Whether a table has a ranked list.
-fn is_ranked(ranks: &[Rank], table: usize) -> bool {
-    ranks.iter().any(|rank| rank.table == table)
 }

@@ -12,8 +12,8 @@
 //! is asked of no more rows than it takes (`values`), and when its rows come to nothing one pass
 //! over them tells (`nothing`). A moment looks at what is due and no more: rows that end, and
 //! verdicts that change. A filter's keys and its next change are read off its verdicts, and a list
-//! looks at the keys of which a bound isn't below what it gives. Users are the fleet, the hub and
-//! the commands.
+//! looks at the keys of which a bound isn't below what it gives. Where these are many, it goes
+//! through all keys as their rows lie (`ranking`). Users are the fleet, the hub and the commands.
 //!
 //! Verdicts are never given up: the book's invariant says so (`IsBook`), and no public clause. What
 //! an event takes for them is made before it is applied (`preparing`): room to judge an update's
