@@ -7,6 +7,7 @@ ghost use Rattle.hub.specs.Posts.{Follows};
 
 use crate::hand::{HubReading, HubWriter};
 use crate::log::Front;
+use std::fmt;
 use std::marker::Model;
 
 /// Which list of events an append made. It is to be waited for. Contracts see it as that list.
@@ -17,6 +18,12 @@ pub struct Ticket {
 impl Drop for Ticket {
     fn drop(self) {
         let Ticket { front: _ } = self;
+    }
+}
+
+impl fmt::Debug for Ticket {
+    fn fmt<W: fmt::Write>(&self, f: &mut fmt::Formatter<W>) -> fmt::Result {
+        f.debug_tuple("Ticket").field(&self.front.len()).finish()
     }
 }
 
@@ -53,6 +60,12 @@ pub struct Receipt {
 impl Drop for Receipt {
     fn drop(self) {
         let Receipt { front: _ } = self;
+    }
+}
+
+impl fmt::Debug for Receipt {
+    fn fmt<W: fmt::Write>(&self, f: &mut fmt::Formatter<W>) -> fmt::Result {
+        f.debug_tuple("Receipt").field(&self.front.len()).finish()
     }
 }
 
