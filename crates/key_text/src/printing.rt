@@ -1,17 +1,13 @@
 //! Keys and numbers as text, behind the bytes that are there.
 
-ghost use Rattle.std.specs.Prelude.{◌≡◌, ◌++◌, ◌<◌, length, take, map, slice_index, OnOk};
+ghost use Rattle.std.specs.Prelude.{◌≡◌, ◌++◌, ◌<◌, length, take, map, OnOk};
 ghost use Rattle.std.specs.Fmt.{decimal};
 ghost use Rattle.std.specs.List.{flat_map, join_with_byte};
-ghost use Rattle.hex.specs.Hex.{lower_digits};
 ghost use Rattle.key_text.specs.Printed.{escaped, groups, hex_of, integer_text, is_plain, key_text};
 ghost use Rattle.key_text.specs.Printed.{signed_text};
 
 use agg_types::{KeyKind, NoMemory};
 use itoa::Buffer;
-
-/// The hexadecimal digits.
-const DIGITS: [u8; 16] = *b"0123456789abcdef";
 
 /// Appends the text of a key. After `NoMemory` some of it may stand behind the bytes that were
 /// there.
@@ -106,29 +102,30 @@ fn append_groups(key: &[u8], out: &mut Vec<u8>) -> Result<(), NoMemory>
     }
 }
 
+#[tactic(auto, unfolding(hex::specs::Hex::encode_with))]
 fn append_group(high: u8, low: u8, out: &mut Vec<u8>) -> Result<(), NoMemory>
     ensures ok { OnOk result (out.new.items ≡ out.old.items ++ hex_of high ++ hex_of low) }
     ensures begins { take (length out.old.items) out.new.items ≡ out.old.items }
 {
-    append_byte(high, out)?;
-    append_byte(low, out)
+    let mut digits = [0u8; 4];
+    match hex::encode_to_slice([high, low], &mut digits) {
+        Ok(()) => append_text(&digits, out),
+        Err(_) => Err(NoMemory),
+    }
 }
 
-// The two digits of a byte.
+// The two digits of a byte. The room fits, so that they can always be written there.
 #[inline]
+#[tactic(auto, unfolding(hex::specs::Hex::encode_with))]
 fn append_byte(byte: u8, out: &mut Vec<u8>) -> Result<(), NoMemory>
     ensures ok { OnOk result (out.new.items ≡ out.old.items ++ hex_of byte) }
     ensures begins { take (length out.old.items) out.new.items ≡ out.old.items }
 {
-    append_text(&[digit(byte / 16), digit(byte % 16)], out)
-}
-
-#[inline]
-fn digit(value: u8) -> u8
-    requires { value < 16 }
-    ensures { result ≡ slice_index lower_digits value }
-{
-    DIGITS[value as usize]
+    let mut digits = [0u8; 2];
+    match hex::encode_to_slice([byte], &mut digits) {
+        Ok(()) => append_text(&digits, out),
+        Err(_) => Err(NoMemory),
+    }
 }
 
 fn append_hex(key: &[u8], out: &mut Vec<u8>) -> Result<(), NoMemory>

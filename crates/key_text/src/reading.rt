@@ -4,14 +4,14 @@ ghost use Rattle.std.specs.Prelude.{◌≡◌, ◌≢◌, ◌<◌, [], length, S
 ghost use Rattle.std.specs.Prelude.{MatchOption};
 ghost use Rattle.agg_types.specs.declared.config.KeyKind.TheVariants.{Integer};
 ghost use Rattle.std.specs.Result.{result_ok};
-ghost use Rattle.hex.specs.Hex.{decode_of, hex_digit_value};
+ghost use Rattle.hex.specs.Hex.{decode_of};
 ghost use Rattle.key_text.specs.Read.{before, bytes_of, hex_byte, integer_of, key_of, string_of};
 
 use crate::ipv6::ipv6_bytes;
 use crate::parts::{Part, number_up_to, part_list};
 use crate::printing::is_plain;
 use agg_types::{Items, Key, KeyKind, NoMemory};
-use hex::FromHexError;
+use hex::{FromHex, FromHexError};
 use std::alloc::Global;
 
 /// The key that a text is read as, or none where the text is no key of this kind.
@@ -121,17 +121,8 @@ fn next_byte(text: &[u8]) -> Option<(u8, &[u8])>
 fn hex_byte(high: u8, low: u8) -> Option<u8>
     ensures { result ≡ hex_byte high low }
 {
-    Some(hex_digit(high)? * 16 + hex_digit(low)?)
-}
-
-fn hex_digit(digit: u8) -> Option<u8>
-    ensures value { result ≡ hex_digit_value digit }
-    ensures within { IfSome result (λ value. value < 16) }
-{
-    match digit {
-        b'0'..=b'9' => Some(digit - b'0'),
-        b'a'..=b'f' => Some(digit - b'a' + 10),
-        b'A'..=b'F' => Some(digit - b'A' + 10),
-        _ => None,
+    match <[u8; 1]>::from_hex([high, low]) {
+        Ok(bytes) => Some(bytes[0]),
+        Err(_) => None,
     }
 }
