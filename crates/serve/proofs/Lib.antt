@@ -1,15 +1,1 @@
-pub mod Ends
-pub mod Later
-pub mod Owns
-pub mod Facts
-pub mod Tellings
-pub mod Works
-pub mod Saying
-pub mod Spoken
-pub mod Pulses
 pub mod Timed
-pub mod Sent
-pub mod Pieces
-pub mod Commanded
-pub mod Kept
-pub mod Moving

@@ -5,14 +5,13 @@ use Rattle.std.proofs.lemmas.List.{append_assoc, map-append}
 use Rattle.agg_types.specs.declared.event.What.{What}
 use Rattle.agg_types.specs.declared.event.What.TheVariants.{Moment}
 use Rattle.hub.specs.History.{Beginning}
-use Rattle.serve.specs.declared.poster.Poster.{Poster}
-use Rattle.serve.specs.declared.served.Served.{Served}
-use Rattle.serve.specs.Moments.{AreBegun, AreTurns, HasTimed, IsTimed, IsTurn}
-use Rattle.serve.specs.Moments.{RiseWithin, TimerTurn, cut_by, last_of, moments_of, stored_by}
-use Rattle.serve.specs.Parting.{WasTimed}
-use Rattle.serve.specs.declared.served.Faulted.{Faulted}
+use Rattle.worker_frame.specs.declared.poster.Poster.{Poster}
+use Rattle.worker_frame.specs.declared.served.Served.{Served}
+use Rattle.worker_frame.specs.Moments.{AreBegun, AreTurns, HasTimed, IsTimed, IsTurn, RiseWithin}
+use Rattle.worker_frame.specs.Moments.{TimerTurn, cut_by, last_of, moments_of, stored_by, WasTimed}
+use Rattle.worker_frame.specs.declared.served.Faulted.{Faulted}
 use Rattle.serve.specs.Ticking.{HasBegun, IsTicking}
-use Rattle.serve.specs.Told.{HasTold, IsServed}
+use Rattle.worker_frame.specs.Told.{HasTold, IsServed}
 
 -- ---- moments that rise
 

@@ -3,10 +3,11 @@ use Rattle.std.specs.Prelude.{◌≡◌, ℕ, List, [], ◌++◌, map, Bool, tru
 use Rattle.agg_types.specs.declared.event.What.TheVariants.{Moment}
 use Rattle.hub.specs.declared.faults.PostFault.{PostFault}
 use Rattle.hub.specs.History.{Beginning}
-use Rattle.serve.specs.declared.poster.Poster.{Poster}
+use Rattle.worker_frame.specs.declared.poster.Poster.{Poster}
 use Rattle.serve.specs.declared.timer.Ticker.{Ticker}
-use Rattle.serve.specs.Moments.{AreTurns, HasTimed, RiseWithin, TimerTurn, last_of, moments_of}
-use Rattle.serve.specs.Told.{HasTold, stored_of}
+use Rattle.worker_frame.specs.Moments.{AreTurns, HasTimed, RiseWithin, TimerTurn, last_of}
+use Rattle.worker_frame.specs.Moments.{moments_of}
+use Rattle.worker_frame.specs.Told.{HasTold, stored_of}
 
 -- turns were told, the last of which ended with a moment, and these portions of one more
 pub record IsTicking (hub : Beginning) (gives : ℕ → Type 0) (poster : Poster) (last : ℕ)

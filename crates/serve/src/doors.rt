@@ -3,24 +3,21 @@
 ghost use Rattle.std.specs.Prelude.{◌≡◌, ℕ, List, Option, IfSome};
 ghost use Rattle.hub.specs.Posts.{Follows, SitsDown};
 ghost use Rattle.serve.specs.Parting.{WasCommanded, WasServed};
-ghost use Rattle.serve.specs.Traffic.{so_far};
+ghost use Rattle.worker_frame.specs.Traffic.{so_far};
 
-use crate::clock::Clock;
-use crate::context::{Context, Link};
 use crate::counts::{ADMINS, Counts, Ended};
-use crate::door::Door;
-use crate::gate::{Gate, News, Place};
-use crate::served::{Faulted, Served};
-use crate::source::Source;
 use crate::timing::Timing;
+use admin_worker::serve_admin;
 use agg_types::Config;
 use hub::{Hub, Naming, Pass};
+use peer_worker::serve_session;
 use std::alloc::Global;
 use std::io::Write;
 use std::net::SocketAddr;
 use std::sync::Wait;
 use std::thread;
 use std::thread::Threads;
+use worker_frame::{Clock, Context, Door, Faulted, Gate, Link, News, Place, Served, Source};
 
 /// How many connections a door takes at most.
 const MOST_CALLERS: u64 = 1 << 40;
@@ -205,7 +202,7 @@ impl<'a, J: Naming, H: Wait + Drop, C: Clock, G: Gate, D> Collector<'a, J, H, C,
         let Caller { source, writer } = caller;
         let mut link = Link { source, writer };
         let is_seated = pass.is_some();
-        let ended = self.context(rt).serve_session(&mut link, pass);
+        let ended = serve_session(&self.context(rt), &mut link, pass);
         self.counts.count(ended.is_ok());
         if is_seated {
             self.gate.tell(Place::Session(None), News::Left);
@@ -269,7 +266,7 @@ impl<
     }
 
     // Without a seat or a lens it is closed.
-    #[tactic(auto, using(crate::proofs::Commanded::lens_follows))]
+    #[tactic(auto, using(worker_frame::proofs::Later::lens_follows))]
     fn admin<R: Wait>(&self, rt: &R, connection: Connection<'a, S, W, D>) {
         let Connection { caller, doors } = connection;
         let Caller { source, writer } = caller;
@@ -284,7 +281,7 @@ impl<
         };
         self.gate.tell(Place::Admin, News::Sat);
         let door = doors.door(&link.source);
-        let ended = self.context(rt).serve_admin(&mut link, lens, pass, door);
+        let ended = serve_admin(&self.context(rt), &mut link, lens, pass, door);
         self.counts.count(ended.is_ok());
         self.gate.tell(Place::Admin, News::Left);
         let Link { source, writer } = link;

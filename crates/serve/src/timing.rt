@@ -3,18 +3,15 @@
 ghost use Rattle.std.specs.Prelude.{◌≡◌, IfSome};
 ghost use Rattle.hub.specs.Posts.{Follows, SitsDown};
 
-use crate::clock::Clock;
-use crate::context::Context;
 use crate::counts::Counts;
-use crate::gate::{Gate, News, Place};
-use crate::served::{Cause, Faulted, Served};
-use crate::status::Status;
+use crate::timer::run_timer;
 use agg_types::NoMemory;
 use book::Book;
 use hub::{Hub, Naming, Pass, PostFault};
 use std::alloc::Global;
 use std::sync::Wait;
 use std::sync::atomic::{AtomicU64, Ordering};
+use worker_frame::{Cause, Clock, Context, Faulted, Gate, News, Place, Served, Status};
 
 /// How many timers there are at most, and how often a seat is tried for.
 const MOST_TRIES: u64 = 1 << 40;
@@ -97,7 +94,7 @@ impl<'a, J: Naming, H: Wait + Drop, C: Clock, G: Gate> Timing<'a, J, H, C, G> {
             clock: self.clock,
             gate: &gate,
         };
-        let ended = context.run_timer(pass);
+        let ended = run_timer(&context, pass);
         let is_next = self.goes_on && lacked_memory(&ended);
         if is_next {
             self.gate.tell(Place::Timer, News::Left);

@@ -1,7 +1,7 @@
 //! What peers and operators send.
 
 ghost use Rattle.std.specs.Prelude.{◌≡◌, ◌≤◌, length};
-ghost use Rattle.serve.specs.Sources.{IsWithin};
+ghost use Rattle.worker_frame.specs.Sources.{IsWithin};
 
 use crate::greeting::Hello;
 use crate::line_head::{Line, LineHead};

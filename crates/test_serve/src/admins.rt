@@ -9,7 +9,7 @@ use crate::peers::{Case, say};
 use crate::told::Ending;
 use anyhow::{Result, anyhow};
 use hub::{Hub, Lens, Naming, Pass};
-use serve::{Context, Door, Faulted, Link, Served};
+use serve::{Context, Door, Faulted, Link, Served, serve_admin};
 use std::alloc::Global;
 use std::sync::Wait;
 
@@ -25,11 +25,11 @@ fn serve<J: Naming, H: Wait + Drop, R: Wait>(
     requires lens { Follows context.now.hub.now lens.seen }
     requires reads { link.old.source.reads ≡ 0 }
 {
-    context.serve_admin(link, lens, pass, door)
+    serve_admin(context, link, lens, pass, door)
 }
 
 /// A lens of this hub.
-#[tactic(auto, using(serve::proofs::Commanded::lens_follows))]
+#[tactic(auto, using(worker_frame::proofs::Later::lens_follows))]
 pub fn lens_of<J: Naming, H: Wait + Drop, R: Wait>(rt: &R, hub: &Hub<J, H>) -> Option<Lens>
     ensures { IfSome result (λ l. Follows hub.now l.seen) }
 {

@@ -3,9 +3,9 @@
 
 ghost use Rattle.std.specs.Prelude.{◌≡◌, [], Some, take, IfSome};
 ghost use Rattle.hub.specs.Posts.{Follows, SitsDown};
-ghost use Rattle.serve.specs.Commands.{IsCommandedWhole};
-ghost use Rattle.serve.specs.Traffic.{so_far};
-ghost use Rattle.serve.specs.Working.{IsServedWhole};
+ghost use Rattle.admin_worker.specs.Commands.{IsCommandedWhole};
+ghost use Rattle.worker_frame.specs.Traffic.{so_far};
+ghost use Rattle.peer_worker.specs.Working.{IsServedWhole};
 
 use crate::admins::{lens_of, seat_of};
 use crate::bytes::{AT_ONCE, QUESTIONS};
@@ -13,7 +13,7 @@ use crate::memory::{Turnstile, Watch};
 use crate::recording::Recording;
 use anyhow::{Result, anyhow};
 use hub::{Hub, Lens, Naming, Pass};
-use serve::{Context, Door, Link, Served};
+use serve::{Context, Door, Link, Served, serve_admin, serve_session};
 use std::alloc::Global;
 use std::sync::Wait;
 use std::time::Clock;
@@ -51,7 +51,7 @@ fn talk<'a, J: Naming, H: Wait + Drop, R: Wait + Clock>(
         known.served) }
 {
     let mut link = link_of(context.alloc, bytes);
-    match context.serve_session(&mut link, Some(pass)) {
+    match serve_session(context, &mut link, Some(pass)) {
         Err(_) => None,
         Ok(served) => Some(Known {
             given: link.source.given(),
@@ -77,7 +77,7 @@ fn command<'a, J: Naming, H: Wait + Drop, R: Wait>(
         known.served) }
 {
     let mut link = link_of(context.alloc, bytes);
-    match context.serve_admin(&mut link, lens, pass, Door::Programs) {
+    match serve_admin(context, &mut link, lens, pass, Door::Programs) {
         Err(_) => None,
         Ok(served) => Some(Known {
             given: link.source.given(),

@@ -1,7 +1,7 @@
 //! A connection and a clock in memory.
 
 ghost use Rattle.std.specs.Prelude.{◌≡◌, ◌≤◌, Ok};
-ghost use Rattle.serve.specs.Sources.{IsWithin};
+ghost use Rattle.worker_frame.specs.Sources.{IsWithin};
 
 use agg_types::NoMemory;
 use book::Book;

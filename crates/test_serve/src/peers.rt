@@ -10,7 +10,7 @@ use crate::paper::{Paper, Pen};
 use crate::told::Ending;
 use anyhow::Result;
 use hub::{Hub, Lens, Naming, Pass};
-use serve::{Context, Faulted, Link, Served};
+use serve::{Context, Faulted, Link, Served, serve_session};
 use std::alloc::Global;
 use std::sync::Wait;
 use std::time::Clock;
@@ -36,7 +36,7 @@ fn serve<J: Naming, H: Wait + Drop, R: Wait + Clock>(
     requires pass { IfSome pass (λ p. SitsDown p × Follows context.now.hub.now p.seen) }
     requires reads { link.old.source.reads ≡ 0 }
 {
-    context.serve_session(link, pass)
+    serve_session(context, link, pass)
 }
 
 /// A seat, if the case has one.

@@ -9,7 +9,7 @@ use crate::paper::{EVEN, Paper};
 use crate::told::Ending;
 use anyhow::{Result, anyhow};
 use hub::{Hub, Lens, Naming, Pass};
-use serve::{Clock, Context, Door, Faulted, Link, Served};
+use serve::{Clock, Context, Door, Faulted, Link, Served, serve_admin};
 use std::alloc::Global;
 use std::sync::Wait;
 use std::sync::atomic::{AtomicUsize, Ordering};
@@ -60,7 +60,7 @@ fn serve<J: Naming, H: Wait + Drop, R: Wait + Print>(
     requires lens { Follows context.now.hub.now lens.seen }
     requires reads { link.old.source.reads ≡ 0 }
 {
-    context.serve_admin(link, lens, pass, Door::Programs)
+    serve_admin(context, link, lens, pass, Door::Programs)
 }
 
 /// Serves an admin whose looks last, until its gate closes at a look. Prints when it rests, and how

@@ -10,7 +10,7 @@ use crate::peers::say;
 use crate::told::Ending;
 use anyhow::Result;
 use hub::{Hub, Naming, Pass};
-use serve::{Came, Context, Faulted, Link, ReadFailed, Served, Source};
+use serve::{Came, Context, Faulted, Link, ReadFailed, Served, Source, serve_session};
 use std::alloc::Global;
 use std::sync::Wait;
 use std::time::Clock;
@@ -54,7 +54,7 @@ fn serve<J: Naming, H: Wait + Drop, R: Wait + Clock>(
     requires pass { IfSome pass (λ p. SitsDown p × Follows context.now.hub.now p.seen) }
     requires reads { link.old.source.script.reads ≡ 0 }
 {
-    context.serve_session(link, pass)
+    serve_session(context, link, pass)
 }
 
 /// Serves a session, and the newer one of its peer before its last read. Tells what the older one

@@ -2,7 +2,7 @@
 
 ghost use Rattle.std.specs.Prelude.{◌≡◌, ℕ, IfOk, slice_index_or, true};
 ghost use Rattle.hub.specs.Posts.{Follows, SitsDown};
-ghost use Rattle.serve.specs.Moments.{IsTimed};
+ghost use Rattle.worker_frame.specs.Moments.{IsTimed};
 
 use crate::admins::{lens_of, seat_of};
 use crate::fleet::moment_in;
@@ -11,7 +11,7 @@ use crate::told::Ending;
 use agg_types::{Cell, Cells, What, Whats};
 use anyhow::{Result, anyhow};
 use hub::{Hub, Lens, Naming, Pass};
-use serve::{Clock, Context, Faulted, Gate, Place, Served};
+use serve::{Clock, Context, Faulted, Gate, Place, Served, run_timer};
 use std::alloc::Global;
 use std::sync::atomic::{AtomicU64, AtomicUsize, Ordering};
 use std::sync::{Mutex, Wait};
@@ -97,7 +97,7 @@ fn run<J: Naming, H: Wait + Drop, R: Wait, G: Gate>(
     ensures { IfOk result (IsTimed context.now.hub.now (λ moment. (at : ℕ)
         × (moment ≡ slice_index_or context.now.clock.now.moments at 0)) true pass.seat 0) }
 {
-    let served = context.run_timer(pass)?;
+    let served = run_timer(context, pass)?;
     if let Some(receipt) = &served.last {
         lens.learn(receipt);
     }

@@ -1,0 +1,9 @@
+pub mod Faults
+pub mod Turns
+pub mod Knowing
+pub mod Gathering
+pub mod Tellings
+pub mod Working
+pub mod Waiting
+pub mod Silent
+pub mod Asking

@@ -1,9 +1,0 @@
-use Rattle.serve.proofs.Works.{stops_at_start}
-use Rattle.serve.specs.Traffic.{so_far}
-use Rattle.serve.proofs.context.Context.run_session.Goals as goal
-
-pub returns-in_default-clause-works : goal.returns-in_default-clause-works
-returns-in_default-clause-works g c =
-    stops_at_start c.args.self.now.hub.now c.args.worker.now.session.seated c.make_room.new.worker
-    (so_far (g.S.Source.given c.args.link.now.source) (g.W.Write.contents c.args.link.now.writer))
-    (c.make_room.ensures.work c.args.worker.now.session.seated c.requires.work)

@@ -1,6 +1,0 @@
-use Rattle.serve.proofs.context.Context.stand_by.Goals as goal
-
-pub returns-clause-takes : goal.returns-clause-takes
-returns-clause-takes g c =
-    λ seated start given more gives w.
-    c.attend.ensures.takes seated start given more gives (rw c.let_go.ensures w)

@@ -1,7 +1,0 @@
-use Rattle.std.proofs.Common.{◌≡◌, map, take}
-use Rattle.serve.specs.Gathering.{said_by_change, said_by_move}
-use Rattle.serve.proofs.moves.moves_of.Given as goal
-
-abbrev pub invariant-loop-change : goal.invariant-loop-change
-invariant-loop-change l = map said_by_move l.moves.items
-    ≡ map said_by_change (map (λ change. change.now) (take l.change-index l.changes))

@@ -1,0 +1,4 @@
+pub mod Later
+pub mod Owns
+pub mod Pieces
+pub mod Sent
