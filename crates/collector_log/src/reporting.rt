@@ -27,6 +27,7 @@ show config
 show filter <filter>
 show filters
 show info
+show key <table> <key>
 show next <filter>
 show peers [<peer>]
 show rank <rank>

@@ -1,13 +1,13 @@
 -- No line of an answer is empty or a refusal's.
-use Rattle.std.proofs.Common.{◌≡◌, ℕ, zero, suc, ◌+◌, ◌≤◌, Bool, true, false, eqb}
+use Rattle.std.proofs.Common.{◌≡◌, ℕ, ◌+◌, ◌≤◌, true, false, eqb}
 use Rattle.std.proofs.Common.{List, [], ◌∷◌, ◌++◌, length, map, Option, None, Some, codes}
 use Rattle.std.proofs.Common.{refl, sym, subst, append_assoc, arith, inl, inr}
-use Rattle.std.specs.Prelude.{slice_index_or}
 use Rattle.std.proofs.lemmas.Bool.{cases_Bool}
 use Rattle.std.proofs.lemmas.Bool.Decides.{nat_tests}
 use Rattle.std.specs.Fmt.{decimal, digits}
 use Rattle.std.specs.List.{flat_map, list_all}
-use Rattle.agg_types.specs.Check.{config_faults, each, filter_faults, rank_faults, table_faults}
+use Rattle.agg_types.specs.Check.{config_faults, each, filter_faults, peer_faults, rank_faults}
+use Rattle.agg_types.specs.Check.{table_faults}
 use Rattle.agg_types.specs.Kind.{kind_name}
 use Rattle.agg_types.specs.declared.check.ConfigFault.{ConfigFault}
 use Rattle.agg_types.specs.declared.column.Col.{Col}
@@ -25,27 +25,29 @@ use Rattle.key_text.specs.Printed.{key_text}
 use Rattle.line_words.specs.Numbers.{is_decimal}
 use Rattle.line_words.specs.Words.{lines_of}
 use Rattle.line_words.proofs.Checked.{HasName, both_none, faultless, filter_fits, rank_fits}
-use Rattle.line_words.proofs.Checked.{table_fits}
+use Rattle.line_words.proofs.Checked.{peer_named, table_fits}
 use Rattle.line_words.proofs.TextLines.{is_line_byte}
 use Rattle.line_words.proofs.WordsBack.{both}
-use Rattle.show_clear.specs.Answer.{IsAnswer, IsAnswerTo, all_hold, change_text}
-use Rattle.show_clear.specs.Answer.{headings, held_text, key_line, line_if, no_shape, period_of}
-use Rattle.show_clear.specs.Answer.{place_text, places_text, ranking_text, rows_text}
-use Rattle.show_clear.specs.Answer.{shape_of, title_text}
+use Rattle.answer_text.specs.Lists.{change_text, held_text, key_line, period_of, place_text}
+use Rattle.answer_text.specs.Lists.{places_text, ranking_text, title_text}
+use Rattle.answer_text.specs.Tables.{cell_text, cells_text, column_text, counts_text, heading}
+use Rattle.answer_text.specs.Tables.{ms_or_never, no_shape, row_text, shape_of, sums_text}
+use Rattle.show_clear.specs.Answer.{IsAnswer, IsAnswerTo, all_hold}
+use Rattle.show_clear.specs.Answer.{headings, line_if}
+use Rattle.show_clear.specs.Answer.{rows_text}
 use Rattle.show_clear.specs.AnswerLines.{AreAnswerLines, is_answer_line}
 use Rattle.show_clear.specs.Refusal.{refusal_text}
-use Rattle.show_clear.specs.Tables.{cell_text, cells_text, column_text, counts_text, heading}
-use Rattle.show_clear.specs.Tables.{ms_or_never, row_text, sums_text}
 use Rattle.show_clear.specs.declared.command.Command.{Command}
 use Rattle.show_clear.specs.declared.command.Command.TheVariants.{Ask, Change as Changes}
 use Rattle.show_clear.specs.declared.command.Question.{Question}
 use Rattle.show_clear.specs.declared.command.Question.TheVariants.{Tables, Table, FilterKeys}
-use Rattle.show_clear.specs.declared.command.Question.TheVariants.{Ranking, NextChange}
+use Rattle.show_clear.specs.declared.command.Question.TheVariants.{Ranking, NextChange, OneKey}
 use Rattle.show_clear.specs.declared.fault.CommandFault.{CommandFault}
 use Rattle.show_clear.specs.declared.fault.CommandFault.TheVariants as faults
+use Rattle.show_clear.proofs.KeyLines.{key_text_lines}
 use Rattle.show_clear.proofs.KeyBytes.{and_true, decimal_digits}
 use Rattle.show_clear.proofs.KeyBytes.{decimal_some}
-use Rattle.show_clear.proofs.AnswerPieces.{Ends, HasLines, answer_lines, at_end, behind}
+use Rattle.show_clear.proofs.AnswerPieces.{Ends, HasLines, answer_lines, at_end, at_position, behind}
 use Rattle.show_clear.proofs.AnswerPieces.{cell_stays, cells_stay, column_stays, flat_lines}
 use Rattle.show_clear.proofs.AnswerPieces.{key_stays, kind_stays, labelled, line_of, more_lines}
 use Rattle.show_clear.proofs.AnswerPieces.{ms_stay, name_stays, no_lines, number_stays, stays}
@@ -244,19 +246,12 @@ names_stay name_of faults named before (x ∷ xs) none =
     (name_stays (name_of x) (named before x h.0).valid)
     (names_stay name_of faults named (before ++ x ∷ []) xs h.1)
 
--- so is that at a position, or the one that stands for none
-at_position : {A : Type 0} (p : A → Bool) (xs : List A) (i : ℕ) (other : A)
-    → list_all p xs ≡ true → p other ≡ true → p (slice_index_or xs i other) ≡ true
-at_position p [] i other all is = is
-at_position p (x ∷ xs) zero other all is = (both (p x) (list_all p xs) all).0
-at_position p (x ∷ xs) (suc i) other all is =
-    at_position p xs i other (both (p x) (list_all p xs) all).1 is
-
 -- the names that answers have
 pub record NamesStay (state : State) : Type 0 where
   pub tables : list_all (stays (λ shape. shape.name)) state.config.tables ≡ true
   pub filters : list_all (stays (λ filter. filter.name)) state.config.filters ≡ true
   pub ranks : list_all (stays (λ rank. rank.name)) state.config.ranks ≡ true
+  pub peers : list_all (stays (λ peer. peer)) state.config.peers ≡ true
   pub shape : (table : ℕ) → list_all is_line_byte (shape_of state table).name ≡ true
   pub filter : (filter : ℕ) → list_all is_line_byte (filter_of state filter).name ≡ true
   pub rank : (rank : ℕ) → list_all is_line_byte (rank_of state rank).name ≡ true
@@ -279,6 +274,7 @@ names_of state none =
       tables = tables;
       filters = filters;
       ranks = ranks;
+      peers = names_stay (λ peer. peer) peer_faults peer_named [] state.config.peers h.peers;
       shape = λ table. at_position (stays (λ shape. shape.name)) state.config.tables table no_shape
           tables refl;
       filter = λ filter. at_position (stays (λ filter. filter.name)) state.config.filters filter
@@ -311,6 +307,8 @@ question_lines state (NextChange at) text names is =
     let filter = filter_of state at in
     subst HasLines (sym is.2) (change_lines filter (shape_of state filter.table) is.0
     (names.filter at) (names.shape filter.table))
+question_lines state (OneKey table key) text names is =
+    key_text_lines state table key text (names.shape table) names.peers names.filters is
 
 pub command_lines : (state : State) (command : Command) (text : List ℕ) → NamesStay state
     → IsAnswer state command text → HasLines text

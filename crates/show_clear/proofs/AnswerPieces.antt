@@ -6,6 +6,7 @@ use Rattle.std.proofs.lemmas.Bool.{cases_Bool, ne_eqb}
 use Rattle.std.proofs.lemmas.List.Folds.{list_all-append}
 use Rattle.std.specs.Fmt.{decimal}
 use Rattle.std.specs.List.{flat_map, list_all}
+use Rattle.std.specs.Prelude.{slice_index_or}
 use Rattle.agg_types.specs.Check.{each}
 use Rattle.agg_types.specs.Col.{col_name, is_rate}
 use Rattle.agg_types.specs.Kind.{kind_name}
@@ -20,8 +21,7 @@ use Rattle.line_words.specs.Words.{lines_of}
 use Rattle.line_words.proofs.TextLines.{is_line_byte, lines_back, printed_bytes}
 use Rattle.line_words.proofs.WordsBack.{both}
 use Rattle.show_clear.specs.AnswerLines.{AreAnswerLines, is_answer_line}
-use Rattle.show_clear.specs.Tables.{cell_text, cells_text, column_text}
-use Rattle.show_clear.specs.Tables.{ms_or_never, value_in}
+use Rattle.answer_text.specs.Tables.{cell_text, cells_text, column_text, ms_or_never, value_in}
 use Rattle.show_clear.proofs.KeyBytes.{Prints, all_of, and_true, decimal_passes}
 use Rattle.show_clear.proofs.KeyBytes.{key_passes, lower_digits}
 
@@ -229,3 +229,11 @@ kind_stays (Binary len) = refl
 pub labelled : (label text : List ℕ) → list_all is_line_byte label ≡ true
     → list_all is_line_byte text ≡ true → list_all is_line_byte (label ++ text) ≡ true
 labelled label text front back = all_of is_line_byte label text front back
+
+-- what passes in each place passes at a position, so does the one that stands for none
+pub at_position : {A : Type 0} (p : A → Bool) (xs : List A) (i : ℕ) (other : A)
+    → list_all p xs ≡ true → p other ≡ true → p (slice_index_or xs i other) ≡ true
+at_position p [] i other all is = is
+at_position p (x ∷ xs) zero other all is = (both (p x) (list_all p xs) all).0
+at_position p (x ∷ xs) (suc i) other all is =
+    at_position p xs i other (both (p x) (list_all p xs) all).1 is

@@ -14,9 +14,9 @@ use Rattle.fleet_model.specs.State.{State}
 use Rattle.fleet_model.specs.Values.{cols_of, meets, value}
 use Rattle.fleet_model.specs.declared.arrival.Arrival.{Arrival}
 use Rattle.fleet_model.specs.declared.summed.Summed.{Summed}
-use Rattle.show_clear.specs.Answer.{all_hold, line_if, rows_text, shape_of}
+use Rattle.answer_text.specs.Tables.{row_text, shape_of, value_in}
+use Rattle.show_clear.specs.Answer.{all_hold, line_if, rows_text}
 use Rattle.show_clear.specs.Selected.{key_row, taken_keys}
-use Rattle.show_clear.specs.Tables.{row_text, value_in}
 
 summed_is : {x y : Summed} → Some x ≡ Some y → x ≡ y
 summed_is same = cc

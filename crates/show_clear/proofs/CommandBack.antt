@@ -33,10 +33,10 @@ use Rattle.line_words.proofs.Checked.{both_none, faultless, filter_stands, rank_
 use Rattle.line_words.proofs.Checked.{table_fits, table_stands}
 use Rattle.line_words.proofs.NamesBack.{data_back, operator_back}
 use Rattle.line_words.proofs.WordsBack.{both, is_word, name_is_word, number_back}
-use Rattle.show_clear.specs.Answer.{no_shape, shape_of}
+use Rattle.answer_text.specs.Tables.{no_shape, shape_of}
 use Rattle.show_clear.specs.Parse.{added as adds, asked, cleared as clears, command_by, command_in}
 use Rattle.show_clear.specs.Parse.{command_of, cond_of, conds_of, dropped as drops, filter_at}
-use Rattle.show_clear.specs.Parse.{filter_on, last_named}
+use Rattle.show_clear.specs.Parse.{filter_on, key_shown, last_key, last_named}
 use Rattle.show_clear.specs.Parse.{named, one_key, rank_at, sel_of, shown as shows}
 use Rattle.show_clear.specs.Parse.{some_conds, stored_column, table_and_sel, table_at, table_shown}
 use Rattle.show_clear.specs.Refused.{fault_alone}
@@ -48,7 +48,7 @@ use Rattle.show_clear.specs.declared.command.Change.TheVariants.{Clear, AddFilte
 use Rattle.show_clear.specs.declared.command.Command.{Command}
 use Rattle.show_clear.specs.declared.command.Command.TheVariants.{Ask, Change as Changes}
 use Rattle.show_clear.specs.declared.command.Question.TheVariants.{Tables, Table, FilterKeys}
-use Rattle.show_clear.specs.declared.command.Question.TheVariants.{Ranking, NextChange}
+use Rattle.show_clear.specs.declared.command.Question.TheVariants.{Ranking, NextChange, OneKey}
 use Rattle.line_words.proofs.ConditionsBack.{bound_fits, conditions_are_words}
 use Rattle.show_clear.proofs.CommandWords.{conditions_cost, cost}
 use Rattle.show_clear.proofs.CommandWords.{key_back, key_is_word, key_short, line_asks, name_short}
@@ -124,7 +124,7 @@ conds_select shape number (cond ∷ conds) fit all =
 key_select : (shape : Shape) (number : ℕ) (key : List ℕ)
     → key_of shape.kind (key_text shape.kind key) ≡ Some key
     → sel_of shape (ahead number (codes "key" ∷ key_text shape.kind key ∷ [])) ≡ Ok (One key)
-unfolding sel_of one_key
+unfolding sel_of one_key last_key
 key_select shape number key back = rw back refl
 
 none_select : (shape : Shape) (number : ℕ) → sel_of shape (ahead number []) ≡ Ok All
@@ -324,6 +324,28 @@ rank_asked state at h = record {
   short = omega (arith, name_short (rank_of state at).name h.name);
 }
 
+-- a table's name and a key
+key_asked : (state : State) (table : ℕ) (key : List ℕ) → config_faults state.config ≡ []
+    → can_pick state table (One key) ≡ true → Asks state (Ask (OneKey table key))
+unfolding command_in shows key_shown named last_key
+key_asked state table key none can =
+    let h = both (at_table state.config.tables table (λ shape. select_fits shape (One key)))
+    (can_select (One key)) can in
+    let named = table_is_named state table (λ shape. select_fits shape (One key)) none h.0 in
+    let shape = shape_of state table in
+    record {
+      back = rw (named.back, key_back shape.kind key named.passes h.1) refl;
+      are_words = rw (
+        name_is_word shape.name named.name,
+        key_is_word shape.kind key named.passes h.1,
+      ) refl;
+      short = omega (
+        arith,
+        name_short shape.name named.name,
+        key_short shape.kind key named.length named.passes,
+      );
+    }
+
 -- the conditions of a filter, of which there are some
 added_conds : (cols : List (Col × ℕ)) (number : ℕ) (conds : List Cond) → CondsFit cols conds
     → have_bounds conds ≡ true
@@ -440,6 +462,7 @@ asks state (Ask (Table table sel)) none can = shown state table sel (picks state
 asks state (Ask (FilterKeys at)) none can = keys_asked state at (filter_is_named state at none can)
 asks state (Ask (Ranking at)) none can = rank_asked state at (rank_is_named state at none can)
 asks state (Ask (NextChange at)) none can = next_asked state at (filter_is_named state at none can)
+asks state (Ask (OneKey table key)) none can = key_asked state table key none can
 asks state (Changes (Clear table sel)) none can =
     cleared state table sel (picks state table sel none can)
 asks state (Changes (AddFilter filter)) none can = filter_added state filter none can

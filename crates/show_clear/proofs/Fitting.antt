@@ -23,11 +23,12 @@ use Rattle.key_text.specs.Read.{bytes_of, if_fits, key_of}
 use Rattle.line_words.specs.Reader.{◌>>=◌, Left, comparison, data_column, end, keyword, left_of}
 use Rattle.line_words.specs.Reader.{next_is, word}
 use Rattle.line_words.specs.declared.misread.Expected.TheVariants.{Keyword, Key, Name}
-use Rattle.show_clear.specs.Answer.{AskedExists, ChangedExists, NamesExist, no_shape, shape_of}
+use Rattle.answer_text.specs.Tables.{no_shape, shape_of}
+use Rattle.show_clear.specs.Answer.{AskedExists, ChangedExists, NamesExist}
 use Rattle.show_clear.specs.Change.{ChangeFits, event_of}
 use Rattle.show_clear.specs.Parse.{Says, added, added_named, cleared, command_by, command_in}
 use Rattle.show_clear.specs.Parse.{cond_of, conds_of, dropped, filter_at, filter_on, is_at_end}
-use Rattle.show_clear.specs.Parse.{last_named, named, new_name, no_more_at}
+use Rattle.show_clear.specs.Parse.{key_shown, last_key, last_named, named, new_name, no_more_at}
 use Rattle.show_clear.specs.Parse.{one_key, rank_at, reading_of, sel_of, shown, shown_by}
 use Rattle.show_clear.specs.Parse.{some_conds, stored_column, table_and_sel, table_at, table_shown}
 use Rattle.show_clear.specs.Parse.{without_returns}
@@ -38,7 +39,7 @@ use Rattle.show_clear.specs.declared.command.Command.{Command}
 use Rattle.show_clear.specs.declared.command.Command.TheVariants.{Ask, Change as Changes}
 use Rattle.show_clear.specs.declared.command.Question.{Question}
 use Rattle.show_clear.specs.declared.command.Question.TheVariants.{Tables, Table, FilterKeys}
-use Rattle.show_clear.specs.declared.command.Question.TheVariants.{Ranking, NextChange}
+use Rattle.show_clear.specs.declared.command.Question.TheVariants.{Ranking, NextChange, OneKey}
 use Rattle.show_clear.specs.declared.refused.Refused.{Refused}
 
 -- what was read in two steps was read in each
@@ -159,17 +160,25 @@ key_of_fits kind (Some bytes) key h =
           rw other at h in cc)
     ]
 
+last_key_fits : (kind : KeyKind) (left : Left) (key : List ℕ) → last_key kind left ≡ Ok key
+    → key_fits kind key ≡ true
+unfolding last_key
+last_key_fits kind left key h =
+    let text = bind_ok (read_of (word Key left)) _ key h in
+    let read = bind_ok (or_refused _ (key_of kind text.0.0)) _ key text.2 in
+    let over = bind_ok (read_of (end text.0.1)) _ key read.2 in
+    subst (λ (k : List ℕ). key_fits kind k ≡ true) (ok_same read.0 key over.2)
+    (key_of_fits kind (bytes_of kind text.0.0) read.0
+    (some_of (key_of kind text.0.0) _ read.0 read.1))
+
 one_key_fits : (shape : Shape) (left : Left) (sel : Select) → one_key shape.kind left ≡ Ok sel
     → select_fits shape sel ≡ true
 unfolding one_key
 one_key_fits shape left sel h =
     let label = bind_ok (read_of (keyword (codes "key") left)) _ sel h in
-    let text = bind_ok (read_of (word Key label.0.1)) _ sel label.2 in
-    let read = bind_ok (or_refused _ (key_of shape.kind text.0.0)) _ sel text.2 in
-    let over = bind_ok (read_of (end text.0.1)) _ sel read.2 in
-    subst (λ (s : Select). select_fits shape s ≡ true) (ok_same (One read.0) sel over.2)
-    (key_of_fits shape.kind (bytes_of shape.kind text.0.0) read.0
-    (some_of (key_of shape.kind text.0.0) _ read.0 read.1))
+    let read = bind_ok (last_key shape.kind label.0.1) _ sel label.2 in
+    subst (λ (s : Select). select_fits shape s ≡ true) (ok_same (One read.0) sel read.2)
+    (last_key_fits shape.kind label.0.1 read.0 read.1)
 
 -- whether something is left
 begun_if : (b : Bool) → (b ≡ true → ⊥) → b ≡ false
@@ -331,6 +340,15 @@ last_good state found left make question good h =
     subst (AskedExists state) (ok_same (make read.0) question read.2)
     (good read.0 (last_is found left read.0 read.1))
 
+key_shown_good : (state : State) (left : Left) (question : Question)
+    → key_shown state left ≡ Ok question → AskedExists state question
+unfolding key_shown
+key_shown_good state left question h =
+    let table = bind_ok (named (table_at state) left) _ question h in
+    let key = bind_ok (last_key (shape_of state table.0.0).kind table.0.1) _ question table.2 in
+    subst (AskedExists state) (ok_same (OneKey table.0.0 key.0) question key.2)
+    (table_within state table.0.0 (named_is (table_at state) left table.0 table.1))
+
 shown_by_good : (state : State) (number : ℕ) (kind : List ℕ) (left : Left) (question : Question)
     → shown_by state number kind left ≡ Ok question → AskedExists state question
 shown_by_good state number kind left question h =
@@ -344,8 +362,9 @@ shown_by_good state number kind left question h =
     (λ is. last_good state (rank_at state) left Ranking question (rank_within state)) (λ h.
     either (bytes_eq kind (codes "next"))
     (last_named (filter_at state) left >>= λ at. Ok (NextChange at)) _ question h
-    (λ is. last_good state (filter_at state) left NextChange question (filter_within state))
-    (none_read _ question))))
+    (λ is. last_good state (filter_at state) left NextChange question (filter_within state)) (λ h.
+    either (bytes_eq kind (codes "key")) (key_shown state left) _ question h
+    (λ is. key_shown_good state left question) (none_read _ question)))))
 
 shown_good : (state : State) (left : Left) (question : Question)
     → shown state left ≡ Ok question → AskedExists state question

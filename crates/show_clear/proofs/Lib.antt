@@ -6,6 +6,7 @@ pub mod Existing
 pub mod Returns
 pub mod KeyBytes
 pub mod AnswerPieces
+pub mod KeyLines
 pub mod AnswerLines
 pub mod PeopleLines
 pub mod TextsBehind

@@ -13,9 +13,9 @@ use Rattle.fleet_model.specs.Answers.{keys_of, listed, summed}
 use Rattle.fleet_model.specs.Values.{cols_of, meets}
 use Rattle.book.specs.Lent.{listed_where, shown_row}
 use Rattle.book_frame.proofs.Listings.{map-filter}
-use Rattle.show_clear.specs.Answer.{line_if, row_lines, rows_text, shape_of}
+use Rattle.answer_text.specs.Tables.{row_text, shape_of}
+use Rattle.show_clear.specs.Answer.{line_if, row_lines, rows_text}
 use Rattle.show_clear.specs.Selected.{key_row, taken_keys}
-use Rattle.show_clear.specs.Tables.{row_text}
 use Rattle.show_clear.proofs.Chosen.{shown_as_taken}
 
 module _ (state : State) (table : ℕ) where

@@ -1,6 +1,6 @@
 -- No line of what people are answered is empty or a refusal's, and an explained refusal is one
 -- line.
-use Rattle.std.proofs.Common.{◌≡◌, ℕ, Bool, true, false, ◌&&◌, leb, if◌then◌else◌}
+use Rattle.std.proofs.Common.{◌≡◌, ℕ, Bool, true, false, ◌&&◌, ◌||◌, leb, if◌then◌else◌}
 use Rattle.std.proofs.Common.{List, [], ◌∷◌, ◌++◌, length, map, take, Option, None, Some, codes}
 use Rattle.std.proofs.Common.{refl, ap, sym, ◌∙◌, subst, append-nil, arith, inl, inr}
 use Rattle.std.proofs.lemmas.Bool.{cases_Bool}
@@ -22,7 +22,8 @@ use Rattle.line_words.specs.Numbered.{word_at}
 use Rattle.line_words.specs.Words.{lines_of, words}
 use Rattle.line_words.proofs.TextLines.{is_line_byte, lines_back}
 use Rattle.line_words.proofs.WordsBack.{both}
-use Rattle.show_clear.specs.Answer.{shape_of, title_text}
+use Rattle.answer_text.specs.Lists.{change_ahead, distance_text, title_text}
+use Rattle.answer_text.specs.Tables.{ms_or_never, shape_of}
 use Rattle.show_clear.specs.AnswerLines.{AreAnswerLines, is_answer_line}
 use Rattle.show_clear.specs.Explained.{add_form, clear_form, del_form, lone_form, no_word}
 use Rattle.show_clear.specs.Explained.{status_form}
@@ -34,14 +35,13 @@ use Rattle.show_clear.specs.Explained.{unknown_text}
 use Rattle.show_clear.specs.Explained.{show_form, stored_text, words_text}
 use Rattle.show_clear.specs.Explained.{refused_text, word_refused}
 use Rattle.show_clear.specs.Parse.{without_returns}
-use Rattle.show_clear.specs.People.{IsPeoplesAnswer, TellsPeople, change_ahead, distance_text}
+use Rattle.show_clear.specs.People.{IsPeoplesAnswer, TellsPeople}
 use Rattle.show_clear.specs.Refusal.{fault_name, fault_number}
-use Rattle.show_clear.specs.Tables.{ms_or_never}
 use Rattle.show_clear.specs.declared.command.Command.{Command}
 use Rattle.show_clear.specs.declared.command.Command.TheVariants.{Ask, Change as Changes}
 use Rattle.show_clear.specs.declared.command.Question.{Question}
 use Rattle.show_clear.specs.declared.command.Question.TheVariants.{Tables, Table, FilterKeys}
-use Rattle.show_clear.specs.declared.command.Question.TheVariants.{Ranking, NextChange}
+use Rattle.show_clear.specs.declared.command.Question.TheVariants.{Ranking, NextChange, OneKey}
 use Rattle.show_clear.specs.declared.fault.CommandFault.{CommandFault}
 use Rattle.show_clear.specs.declared.fault.CommandFault.TheVariants as faults
 use Rattle.show_clear.specs.declared.quoting.TheConstants.{MOST_QUOTED}
@@ -152,7 +152,8 @@ show_stays second =
     (either (bytes_eq second (codes "filter")) (fine (codes "show filter <filter>") refl)
     (either (bytes_eq second (codes "next")) (fine (codes "show next <filter>") refl)
     (either (bytes_eq second (codes "rank")) (fine (codes "show rank <rank>") refl)
-    (status_stays second))))
+    (either (bytes_eq second (codes "key")) (fine (codes "show key <table> <key>") refl)
+    (status_stays second)))))
 
 clear_stays : (second : List ℕ) → Fine (clear_form second)
 clear_stays second =
@@ -237,7 +238,7 @@ name_stays state ws name names =
     (either (bytes_eq (word_at 1 ws) (codes "del")) (fine (not_added name)
     (around (codes "no filter ") name (codes " was added; those of the configuration stay") refl
     refl))
-    (either (bytes_eq (word_at 2 ws) (codes "table"))
+    (either (bytes_eq (word_at 2 ws) (codes "table") || bytes_eq (word_at 2 ws) (codes "key"))
     (fine (no_table state name) (table_stays state name names))
     (either (bytes_eq (word_at 2 ws) (codes "rank"))
     (fine (no_rank_named state name) (rank_stays state name names))
@@ -374,6 +375,8 @@ told_lines state (Table table sel) text names is =
 told_lines state (FilterKeys at) text names is =
     question_lines state (FilterKeys at) text names is
 told_lines state (Ranking at) text names is = question_lines state (Ranking at) text names is
+told_lines state (OneKey table key) text names is =
+    question_lines state (OneKey table key) text names is
 told_lines state (NextChange at) text names is =
     let filter = filter_of state at in
     subst HasLines (sym is.2) (ahead_lines filter (shape_of state filter.table) state.moment is.0

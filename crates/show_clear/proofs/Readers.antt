@@ -8,7 +8,7 @@ use Rattle.show_clear.specs.declared.answers.Readers.TheVariants.{Scripts, Peopl
 use Rattle.show_clear.specs.declared.command.Command.{Command}
 use Rattle.show_clear.specs.declared.command.Command.TheVariants.{Ask, Change as Changes}
 use Rattle.show_clear.specs.declared.command.Question.TheVariants.{Tables, Table, FilterKeys}
-use Rattle.show_clear.specs.declared.command.Question.TheVariants.{Ranking, NextChange}
+use Rattle.show_clear.specs.declared.command.Question.TheVariants.{Ranking, NextChange, OneKey}
 
 for_scripts : (state : State) (command : Command) (text : List ℕ)
     → IsAnswerFor Scripts state command text → IsAnswer state command text
@@ -17,6 +17,7 @@ for_scripts state (Ask (Table table sel)) text h = h
 for_scripts state (Ask (FilterKeys filter)) text h = h
 for_scripts state (Ask (Ranking rank)) text h = h
 for_scripts state (Ask (NextChange filter)) text h = h
+for_scripts state (Ask (OneKey table key)) text h = h
 for_scripts state (Changes change) text h = h
 
 for_people : (state : State) (command : Command) (text : List ℕ)
@@ -26,6 +27,7 @@ for_people state (Ask (Table table sel)) text h = h
 for_people state (Ask (FilterKeys filter)) text h = h
 for_people state (Ask (Ranking rank)) text h = h
 for_people state (Ask (NextChange filter)) text h = h
+for_people state (Ask (OneKey table key)) text h = h
 for_people state (Changes change) text h = h
 
 pub answers_scripts : (state : State) (command : Command) (old new : List ℕ)

@@ -1,14 +1,10 @@
 -- The texts of answers.
 use Rattle.std.specs.Prelude.{◌≡◌, ℕ, ◌+◌, ◌<◌, ⊤, Bool, List, [], ◌∷◌, ◌++◌, codes, length}
-use Rattle.std.specs.Prelude.{filter, slice_index_or, Option, None, Some, if◌then◌else◌}
-use Rattle.std.specs.Fmt.{decimal}
+use Rattle.std.specs.Prelude.{filter, Option, None, Some, if◌then◌else◌}
 use Rattle.std.specs.List.{flat_map, list_all}
-use Rattle.agg_types.specs.Col.{same_col}
 use Rattle.agg_types.specs.Op.{op_holds}
-use Rattle.agg_types.specs.declared.column.Col.{Col}
 use Rattle.agg_types.specs.declared.config.Cond.{Cond}
 use Rattle.agg_types.specs.declared.config.Filter.{Filter}
-use Rattle.agg_types.specs.declared.config.KeyKind.TheVariants.{Integer}
 use Rattle.agg_types.specs.declared.config.Rank.{Rank}
 use Rattle.agg_types.specs.declared.config.Shape.{Shape}
 use Rattle.agg_types.specs.declared.event.Select.{Select}
@@ -18,23 +14,16 @@ use Rattle.fleet_model.specs.Next.{IsNextChange}
 use Rattle.fleet_model.specs.Ranking.{rank_of, ranked}
 use Rattle.fleet_model.specs.State.{State}
 use Rattle.fleet_model.specs.declared.summed.Summed.{Summed}
-use Rattle.key_text.specs.Printed.{key_text}
-use Rattle.show_clear.specs.Tables.{cell_text, column_text, heading, ms_or_never, row_text}
-use Rattle.show_clear.specs.Tables.{value_in}
+use Rattle.answer_text.specs.KeyAnswer.{IsKeyText}
+use Rattle.answer_text.specs.Lists.{change_text, held_text, period_of, ranking_text}
+use Rattle.answer_text.specs.Tables.{heading, row_text, shape_of, value_in}
 use Rattle.show_clear.specs.declared.command.Change.{Change}
 use Rattle.show_clear.specs.declared.command.Change.TheVariants.{Clear, AddFilter, DropFilter}
 use Rattle.show_clear.specs.declared.command.Command.{Command}
 use Rattle.show_clear.specs.declared.command.Command.TheVariants.{Ask, Change as Changes}
 use Rattle.show_clear.specs.declared.command.Question.{Question}
 use Rattle.show_clear.specs.declared.command.Question.TheVariants.{Tables, Table, FilterKeys}
-use Rattle.show_clear.specs.declared.command.Question.TheVariants.{Ranking, NextChange}
-
-abbrev pub no_shape : Shape
-no_shape = record { name = []; kind = Integer; size = 0; keep = None; cols = [] }
-
--- the table at a position
-abbrev pub shape_of : State → ℕ → Shape
-shape_of state table = slice_index_or state.config.tables table no_shape
+use Rattle.show_clear.specs.declared.command.Question.TheVariants.{Ranking, NextChange, OneKey}
 
 -- the headings of tables, the first of which has this position
 abbrev pub headings : State → ℕ → List Shape → List ℕ
@@ -68,55 +57,14 @@ abbrev pub table_text : State → ℕ → Select → List ℕ
 table_text state table sel =
     heading (shape_of state table) (length (keys_of state table)) ++ rows_text state table sel
 
--- a key on a line of its own
-abbrev pub key_line : Shape → List ℕ → List ℕ
-key_line shape key = codes "key=" ++ key_text shape.kind key ++ codes "\n"
-
--- the name of a standing filter or a ranked list behind its title, and that of its table
-abbrev pub title_text : List ℕ → List ℕ → Shape → List ℕ
-title_text title name shape = title ++ name ++ codes ", table: " ++ shape.name
-
--- the heading of a standing filter that holds these keys, and the keys
-abbrev pub held_text : Filter → Shape → List (List ℕ) → List ℕ
-held_text filter shape keys =
-    title_text (codes "# filter: ") filter.name shape ++ codes ", keys:"
-    ++ decimal (length keys) ++ codes "\n" ++ flat_map (key_line shape) keys
-
 abbrev pub filter_text : State → Filter → List ℕ
 filter_text state filter =
     held_text filter (shape_of state filter.table) (set_at state filter state.moment)
-
--- the period of a column, 0 where it isn't stored
-abbrev pub period_of : List (Col × ℕ) → Col → ℕ
-period_of [] col = 0
-period_of (stored ∷ cols) col = if same_col stored.0 col then stored.1 else period_of cols col
-
--- the line of a key at a place of a ranked list
-abbrev pub place_text : ℕ → Shape → List ℕ → Col × ℕ → ℕ → List ℕ
-place_text place shape key col value =
-    decimal place ++ codes " key=" ++ key_text shape.kind key ++ cell_text col value ++ codes "\n"
-
--- keys with their values of a column, behind their places, the first of which is this
-abbrev pub places_text : Shape → Col × ℕ → ℕ → List (List ℕ × ℕ) → List ℕ
-places_text shape col place [] = []
-places_text shape col place (entry ∷ entries) =
-    place_text place shape entry.0 col entry.1 ++ places_text shape col (place + 1) entries
-
--- the heading of a ranked list, and its keys
-abbrev pub ranking_text : Rank → Shape → Col × ℕ → List (List ℕ × ℕ) → List ℕ
-ranking_text rank shape col entries =
-    title_text (codes "# rank: ") rank.name shape ++ codes ", by: " ++ column_text col
-    ++ codes "\n" ++ places_text shape col 1 entries
 
 abbrev pub rank_text : State → Rank → List ℕ
 rank_text state rank =
     ranking_text rank (shape_of state rank.table)
     (rank.col, period_of (shape_of state rank.table).cols rank.col) (ranked state rank)
-
--- the moment at which a standing filter holds other keys, or never
-abbrev pub change_text : Filter → Shape → Option ℕ → List ℕ
-change_text filter shape t =
-    title_text (codes "# next: ") filter.name shape ++ codes ", at:" ++ ms_or_never t ++ codes "\n"
 
 -- the text that says what the next change of a filter is
 abbrev pub IsNextText : State → Filter → List ℕ → Type 0
@@ -131,6 +79,7 @@ IsAnswerTo state (Table table sel) text = text ≡ table_text state table sel
 IsAnswerTo state (FilterKeys filter) text = text ≡ filter_text state (filter_of state filter)
 IsAnswerTo state (Ranking rank) text = text ≡ rank_text state (rank_of state rank)
 IsAnswerTo state (NextChange filter) text = IsNextText state (filter_of state filter) text
+IsAnswerTo state (OneKey table key) text = IsKeyText state table key text
 
 -- the text of a command's answer. A change is answered `ok`.
 abbrev pub IsAnswer : State → Command → List ℕ → Type 0
@@ -148,6 +97,7 @@ AskedExists state (Table table sel) = table < length state.config.tables
 AskedExists state (FilterKeys filter) = filter < length state.config.filters
 AskedExists state (Ranking rank) = rank < length state.config.ranks
 AskedExists state (NextChange filter) = filter < length state.config.filters
+AskedExists state (OneKey table key) = table < length state.config.tables
 
 -- a change names what is in a configuration
 abbrev pub ChangedExists : State → Change → Type 0

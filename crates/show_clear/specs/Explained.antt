@@ -14,7 +14,7 @@ use Rattle.fleet_model.specs.State.{State}
 use Rattle.line_words.specs.Numbered.{word_at}
 use Rattle.line_words.specs.Words.{words}
 use Rattle.line_words.specs.declared.misread.Misread.{Misread}
-use Rattle.show_clear.specs.Answer.{shape_of}
+use Rattle.answer_text.specs.Tables.{shape_of}
 use Rattle.show_clear.specs.Parse.{without_returns}
 use Rattle.show_clear.specs.Refusal.{fault_name, fault_number}
 use Rattle.show_clear.specs.declared.fault.CommandFault.{CommandFault}
@@ -91,6 +91,7 @@ show_form second =
     else if bytes_eq second (codes "filter") then codes "show filter <filter>"
     else if bytes_eq second (codes "next") then codes "show next <filter>"
     else if bytes_eq second (codes "rank") then codes "show rank <rank>"
+    else if bytes_eq second (codes "key") then codes "show key <table> <key>"
     else status_form second
 
 abbrev pub clear_form : List ℕ → List ℕ
@@ -180,7 +181,7 @@ not_added name =
 -- the name that nothing has, by what is to be shown or cleared
 abbrev pub not_shown : State → List ℕ → List ℕ → List ℕ
 not_shown state what name =
-    if bytes_eq what (codes "table") then no_table state name
+    if bytes_eq what (codes "table") || bytes_eq what (codes "key") then no_table state name
     else if bytes_eq what (codes "rank") then no_rank_named state name
     else if bytes_eq what (codes "peers") then no_peer_named name
     else no_filter_named state name

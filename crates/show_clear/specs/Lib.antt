@@ -8,5 +8,4 @@ pub mod Readers
 pub mod Refusal
 pub mod Refused
 pub mod Selected
-pub mod Tables
 pub mod Written

@@ -22,7 +22,7 @@ use Rattle.line_words.specs.Reader.{◌>>=◌, Left, comparison, data_column, en
 use Rattle.line_words.specs.Reader.{missing, next_is, word, wrong}
 use Rattle.line_words.specs.Words.{words}
 use Rattle.line_words.specs.declared.misread.Expected.TheVariants as expected
-use Rattle.show_clear.specs.Answer.{shape_of}
+use Rattle.answer_text.specs.Tables.{shape_of}
 pub use Rattle.show_clear.specs.Refused.{Read}
 use Rattle.show_clear.specs.Refused.{Reading, fault_alone, or_refused, read_of, refused_at}
 use Rattle.show_clear.specs.Refused.{refused_for, unplaced}
@@ -32,7 +32,7 @@ use Rattle.show_clear.specs.declared.command.Command.{Command}
 use Rattle.show_clear.specs.declared.command.Command.TheVariants.{Ask, Change as Changes}
 use Rattle.show_clear.specs.declared.command.Question.{Question}
 use Rattle.show_clear.specs.declared.command.Question.TheVariants.{Tables, Table, FilterKeys}
-use Rattle.show_clear.specs.declared.command.Question.TheVariants.{Ranking, NextChange}
+use Rattle.show_clear.specs.declared.command.Question.TheVariants.{Ranking, NextChange, OneKey}
 use Rattle.show_clear.specs.declared.fault.CommandFault.TheVariants.{Empty, Unknown, NoTable}
 use Rattle.show_clear.specs.declared.fault.CommandFault.TheVariants.{BadKey, TooMany, NoMemory}
 use Rattle.show_clear.specs.declared.fault.CommandFault.TheVariants.{BadName, Exists, Full}
@@ -84,13 +84,19 @@ some_conds cols left =
 
 -- ---- selectors
 
+-- the last word says a key
+unfoldable pub last_key : KeyKind → Left → Reading (List ℕ)
+last_key kind left = do
+  text ← read_of (word expected.Key left)
+  key ← or_refused (refused_at BadKey (wrong left.number expected.Key)) (key_of kind text.0)
+  none ← read_of (end text.1)
+  Ok key
+
 -- `key` and a key
 unfoldable pub one_key : KeyKind → Left → Reading Select
 one_key kind left = do
   label ← read_of (keyword (codes "key") left)
-  text ← read_of (word expected.Key label.1)
-  key ← or_refused (refused_at BadKey (wrong label.1.number expected.Key)) (key_of kind text.0)
-  none ← read_of (end text.1)
+  key ← last_key kind label.1
   Ok (One key)
 
 -- a selector: nothing for all keys, `key` and a key, or one to four conditions
@@ -147,6 +153,13 @@ table_shown state left =
     if is_at_end left then Ok Tables
     else (table_and_sel state left >>= λ found. Ok (Table found.0 found.1))
 
+-- behind `show key`
+unfoldable pub key_shown : State → Left → Reading Question
+key_shown state left = do
+  table ← named (table_at state) left
+  key ← last_key (shape_of state table.0).kind table.1
+  Ok (OneKey table.0 key)
+
 -- behind `show`, by the next word, which has this number
 abbrev pub shown_by : State → ℕ → List ℕ → Left → Reading Question
 shown_by state number kind left =
@@ -157,6 +170,7 @@ shown_by state number kind left =
     then (last_named (rank_at state) left >>= λ at. Ok (Ranking at))
     else if bytes_eq kind (codes "next")
     then (last_named (filter_at state) left >>= λ at. Ok (NextChange at))
+    else if bytes_eq kind (codes "key") then key_shown state left
     else Err (refused_for (wrong number expected.Keyword))
 
 -- behind `show`

@@ -1,29 +1,17 @@
 -- The answers that people get.
-use Rattle.std.specs.Prelude.{◌≡◌, ℕ, ◌-◌, List, [], ◌++◌, codes, Option, None, Some}
-use Rattle.std.specs.Fmt.{decimal}
+use Rattle.std.specs.Prelude.{◌≡◌, ℕ, List, ◌++◌, Option}
 use Rattle.agg_types.specs.declared.config.Filter.{Filter}
-use Rattle.agg_types.specs.declared.config.Shape.{Shape}
 use Rattle.fleet_model.specs.Answers.{filter_of}
 use Rattle.fleet_model.specs.Next.{IsNextChange}
 use Rattle.fleet_model.specs.State.{State}
-use Rattle.show_clear.specs.Answer.{IsAnswer, IsAnswerTo, shape_of, title_text}
-use Rattle.show_clear.specs.Tables.{ms_or_never}
+use Rattle.answer_text.specs.Lists.{change_ahead}
+use Rattle.answer_text.specs.Tables.{shape_of}
+use Rattle.show_clear.specs.Answer.{IsAnswer, IsAnswerTo}
 use Rattle.show_clear.specs.declared.command.Command.{Command}
 use Rattle.show_clear.specs.declared.command.Command.TheVariants.{Ask, Change as Changes}
 use Rattle.show_clear.specs.declared.command.Question.{Question}
 use Rattle.show_clear.specs.declared.command.Question.TheVariants.{Tables, Table, FilterKeys}
-use Rattle.show_clear.specs.declared.command.Question.TheVariants.{Ranking, NextChange}
-
--- how far off a moment is, if there is one
-abbrev pub distance_text : ℕ → Option ℕ → List ℕ
-distance_text now None = []
-distance_text now (Some t) = codes " in:" ++ decimal (t - now)
-
--- the moment at which a standing filter holds other keys, or never, and how far off it is
-abbrev pub change_ahead : Filter → Shape → ℕ → Option ℕ → List ℕ
-change_ahead filter shape now t =
-    title_text (codes "# next: ") filter.name shape ++ codes ", at:" ++ ms_or_never t
-    ++ distance_text now t ++ codes "\n"
+use Rattle.show_clear.specs.declared.command.Question.TheVariants.{Ranking, NextChange, OneKey}
 
 -- the text that says what the next change of a filter is, and how far off
 abbrev pub IsNextAhead : State → Filter → List ℕ → Type 0
@@ -38,6 +26,7 @@ TellsPeople state (Table table sel) text = IsAnswerTo state (Table table sel) te
 TellsPeople state (FilterKeys filter) text = IsAnswerTo state (FilterKeys filter) text
 TellsPeople state (Ranking rank) text = IsAnswerTo state (Ranking rank) text
 TellsPeople state (NextChange filter) text = IsNextAhead state (filter_of state filter) text
+TellsPeople state (OneKey table key) text = IsAnswerTo state (OneKey table key) text
 
 -- the text of a command's answer
 abbrev pub IsPeoplesAnswer : State → Command → List ℕ → Type 0

@@ -11,7 +11,7 @@ use Rattle.show_clear.specs.declared.command.Command.{Command}
 use Rattle.show_clear.specs.declared.command.Command.TheVariants.{Ask, Change as Changes}
 use Rattle.show_clear.specs.declared.command.Question.{Question}
 use Rattle.show_clear.specs.declared.command.Question.TheVariants.{Tables, Table, FilterKeys}
-use Rattle.show_clear.specs.declared.command.Question.TheVariants.{Ranking, NextChange}
+use Rattle.show_clear.specs.declared.command.Question.TheVariants.{Ranking, NextChange, OneKey}
 
 -- the text that says what the next change of a filter is
 abbrev pub IsNextFor : Readers → State → Filter → List ℕ → Type 0
@@ -26,6 +26,7 @@ IsToldTo readers state (FilterKeys filter) text = IsAnswerTo state (FilterKeys f
 IsToldTo readers state (Ranking rank) text = IsAnswerTo state (Ranking rank) text
 IsToldTo readers state (NextChange filter) text =
     IsNextFor readers state (filter_of state filter) text
+IsToldTo readers state (OneKey table key) text = IsAnswerTo state (OneKey table key) text
 
 -- the text of a command's answer
 abbrev pub IsAnswerFor : Readers → State → Command → List ℕ → Type 0

@@ -4,7 +4,8 @@ use Rattle.agg_types.specs.declared.event.Select.{Select}
 use Rattle.fleet_model.specs.Answers.{keys_of, summed}
 use Rattle.fleet_model.specs.State.{State}
 use Rattle.fleet_model.specs.Values.{cols_of, selects}
-use Rattle.show_clear.specs.Answer.{line_if, shape_of}
+use Rattle.answer_text.specs.Tables.{shape_of}
+use Rattle.show_clear.specs.Answer.{line_if}
 
 -- the line of a key's row, if it has one
 abbrev pub key_row : State → ℕ → List ℕ → List ℕ

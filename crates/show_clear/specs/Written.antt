@@ -15,14 +15,14 @@ use Rattle.fleet_model.specs.Ranking.{rank_of}
 use Rattle.fleet_model.specs.State.{State}
 use Rattle.key_text.specs.Printed.{key_text}
 use Rattle.line_words.specs.Conditions.{condition_words, have_bounds}
-use Rattle.show_clear.specs.Answer.{shape_of}
+use Rattle.answer_text.specs.Tables.{shape_of}
 use Rattle.show_clear.specs.declared.command.Change.{Change}
 use Rattle.show_clear.specs.declared.command.Change.TheVariants.{Clear, AddFilter, DropFilter}
 use Rattle.show_clear.specs.declared.command.Command.{Command}
 use Rattle.show_clear.specs.declared.command.Command.TheVariants.{Ask, Change as Changes}
 use Rattle.show_clear.specs.declared.command.Question.{Question}
 use Rattle.show_clear.specs.declared.command.Question.TheVariants.{Tables, Table, FilterKeys}
-use Rattle.show_clear.specs.declared.command.Question.TheVariants.{Ranking, NextChange}
+use Rattle.show_clear.specs.declared.command.Question.TheVariants.{Ranking, NextChange, OneKey}
 
 -- a selector: nothing for all keys, `key` and a key, or conditions
 abbrev pub selector_words : KeyKind → Select → List (List ℕ)
@@ -42,6 +42,9 @@ question_words state (FilterKeys at) =
     codes "show" ∷ codes "filter" ∷ (filter_of state at).name ∷ []
 question_words state (Ranking at) = codes "show" ∷ codes "rank" ∷ (rank_of state at).name ∷ []
 question_words state (NextChange at) = codes "show" ∷ codes "next" ∷ (filter_of state at).name ∷ []
+question_words state (OneKey table key) =
+    codes "show" ∷ codes "key" ∷ (shape_of state table).name
+    ∷ key_text (shape_of state table).kind key ∷ []
 
 abbrev pub change_words : State → Change → List (List ℕ)
 change_words state (Clear table sel) =
@@ -86,6 +89,7 @@ can_ask state (Ask (Table table sel)) = can_pick state table sel
 can_ask state (Ask (FilterKeys at)) = nat_lt at (length state.config.filters)
 can_ask state (Ask (Ranking at)) = nat_lt at (length state.config.ranks)
 can_ask state (Ask (NextChange at)) = nat_lt at (length state.config.filters)
+can_ask state (Ask (OneKey table key)) = can_pick state table (One key)
 can_ask state (Changes (Clear table sel)) = can_pick state table sel
 can_ask state (Changes (AddFilter filter)) = filter_fits state.config.tables filter
     && have_bounds filter.conds && can_add state filter.name

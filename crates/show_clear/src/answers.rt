@@ -6,16 +6,19 @@ ghost use Rattle.fleet_model.specs.Answers.{filter_of};
 ghost use Rattle.fleet_model.specs.Ranking.{rank_of};
 ghost use Rattle.show_clear.specs.Answer.{Answers, AskedExists};
 ghost use Rattle.show_clear.specs.Answer.{NamesExist, filter_text};
-ghost use Rattle.show_clear.specs.Answer.{headings, rank_text, row_lines, rows_text, shape_of};
+ghost use Rattle.answer_text.specs.Tables.{shape_of};
+ghost use Rattle.show_clear.specs.Answer.{headings, rank_text, row_lines, rows_text};
 ghost use Rattle.show_clear.specs.Answer.{table_text};
 ghost use Rattle.show_clear.specs.People.{AnswersPeople};
 ghost use Rattle.show_clear.specs.Readers.{AnswersFor, AppendsNext, AppendsTold};
 
 use crate::fleet::{Book, BookRows};
-use crate::lists::{append_change, append_change_ahead, append_held, append_ranking};
-use crate::tables::{append_heading, append_row};
 use crate::{Command, Question};
 use agg_types::{Cond, Filter, Key, NoMemory, Rank, Select, Shape};
+use answer_text::{
+    append_change, append_change_ahead, append_heading, append_held, append_one_key,
+    append_ranking, append_row, shape_of,
+};
 use key_text::append_text;
 use std::alloc::Global;
 
@@ -119,6 +122,7 @@ fn append_asked(
         Question::FilterKeys(filter) => append_filter(alloc, book, *filter, out),
         Question::Ranking(rank) => append_rank(alloc, book, *rank, out),
         Question::NextChange(filter) => append_next(book, readers, *filter, out),
+        Question::OneKey { table, key } => append_one_key(book, *table, key, out),
     }
 }
 
@@ -132,13 +136,6 @@ fn append_headings(book: &Book, out: &mut Vec<u8>) -> Result<(), NoMemory>
         append_heading(shape, book.used(table), out)?;
     }
     Ok(())
-}
-
-pub(crate) fn shape_of(book: &Book, table: usize) -> &Shape
-    requires { table < length book.now.config.tables }
-    ensures { result.now ≡ shape_of book.now table }
-{
-    &book.config().tables.as_slice()[table]
 }
 
 #[tactic(auto, using(key_text::proofs::Begins::begins_then))]

@@ -3,7 +3,7 @@
 ghost use Rattle.std.specs.Prelude.{◌≡◌, None, Some, IfNone, IfSome};
 ghost use Rattle.show_clear.specs.Change.{asked_event, change_of, event_of};
 
-use agg_types::{Filter, Name, Select, What};
+use agg_types::{Filter, Key, Name, Select, What};
 
 /// What a line asks for (Management Guide, "show table" and "clear table"; the others are this
 /// project's own). Tables, standing filters and ranked lists are named by position.
@@ -28,6 +28,8 @@ pub enum Question {
     Ranking(usize),
     /// The first moment at which a standing filter holds other keys.
     NextChange(usize),
+    /// The peers that hold a key of a table, and what the table's filters say of it.
+    OneKey { table: usize, key: Key },
 }
 
 /// What is to be changed.

@@ -8,7 +8,6 @@ ghost use Rattle.show_clear.specs.Explained.{word_refused, words_text};
 use crate::fleet::Book;
 use crate::forms::append_form;
 use crate::parsing::without_returns;
-use crate::pieces::{append_counted, append_labelled};
 use crate::unfit::{
     append_bad_column, append_bad_key, append_bad_name, append_bad_operator, append_bad_value,
     append_exists, append_full, append_too_many,
@@ -17,6 +16,7 @@ use crate::unnamed::append_no_name;
 use crate::{CommandFault, Refused};
 use agg_types::NoMemory;
 use agg_types::limits::LONGEST_COMMAND_LINE;
+use answer_text::{append_counted, append_labelled};
 use key_text::append_text;
 use line_words::{Misread, word_at};
 use std::alloc::Global;

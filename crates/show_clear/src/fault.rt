@@ -3,8 +3,8 @@
 ghost use Rattle.std.specs.Prelude.{◌≡◌, ◌++◌, length, take, OnOk, OnErr};
 ghost use Rattle.show_clear.specs.Refusal.{fault_name, fault_number, refusal_text};
 
-use crate::pieces::{append_counted, append_labelled};
 use agg_types::NoMemory;
+use answer_text::{append_counted, append_labelled};
 use key_text::append_text;
 use std::error::Error;
 use std::fmt;

@@ -1,3 +1,3 @@
 //! The book that answers are read from, named here alone.
 
-pub use book::{Book, BookRows, Ranked, Summed};
+pub use book::{Book, BookRows};

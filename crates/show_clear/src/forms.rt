@@ -6,9 +6,9 @@ ghost use Rattle.show_clear.specs.Explained.{is_begun, lone_form, missing_text, 
 ghost use Rattle.show_clear.specs.Explained.{no_word};
 ghost use Rattle.show_clear.specs.Explained.{show_form, status_form, stranger_text, unknown_text};
 
-use crate::pieces::append_labelled;
 use crate::quoting::append_quoted;
 use agg_types::NoMemory;
+use answer_text::append_labelled;
 use key_text::append_text;
 
 /// Appends how the command of these two words is written, or that there is none.
@@ -104,6 +104,8 @@ fn show_form(second: &[u8]) -> &'static str
         "show next <filter>"
     } else if second == b"rank".as_slice() {
         "show rank <rank>"
+    } else if second == b"key".as_slice() {
+        "show key <table> <key>"
     } else {
         status_form(second)
     }

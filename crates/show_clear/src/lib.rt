@@ -19,12 +19,9 @@ mod fault;
 mod fleet;
 mod forms;
 pub mod laws;
-mod lists;
 mod parsing;
-mod pieces;
 mod quoting;
 mod refused;
-mod tables;
 mod unfit;
 mod unnamed;
 

@@ -7,18 +7,19 @@ ghost use Rattle.show_clear.specs.Answer.{NamesExist};
 ghost use Rattle.show_clear.specs.Change.{ChangeFits};
 ghost use Rattle.show_clear.specs.Parse.{Finds, Says, Takes, TakesMemoryAt, Tells, added};
 ghost use Rattle.show_clear.specs.Parse.{added_named, begins_del, cleared, command_by, command_in};
-ghost use Rattle.show_clear.specs.Parse.{command_of, dropped, filter_at, filter_on, last_named};
+ghost use Rattle.show_clear.specs.Parse.{command_of, dropped, filter_at, filter_on, key_shown};
+ghost use Rattle.show_clear.specs.Parse.{last_key, last_named};
 ghost use Rattle.show_clear.specs.Parse.{named, new_name, no_name, one_key, rank_at, reading_of};
 ghost use Rattle.show_clear.specs.Parse.{sel_of, shown, shown_by, table_and_sel, table_at};
 ghost use Rattle.show_clear.specs.Parse.{table_shown, without_returns};
 ghost use Rattle.show_clear.specs.declared.fault.CommandFault.TheVariants.{NoMemory as OutOfMemory};
 
-use crate::answers::shape_of;
 use crate::conditions::{read_conds, read_some_conds};
 use crate::fleet::Book;
 use crate::{Change, Command, CommandFault, Question, Refused};
 use agg_types::limits::LONGEST_COMMAND_LINE;
-use agg_types::{Filter, KeyKind, MOST_FILTERS, Name, Select, Shape, is_name};
+use agg_types::{Filter, Key, KeyKind, MOST_FILTERS, Name, Select, Shape, is_name};
+use answer_text::shape_of;
 use key_text::read_key;
 use line_words::{Expected, Misread, Words};
 use std::alloc::Global;
@@ -144,6 +145,8 @@ fn shown_by(
         Ok(Question::Ranking(rank_named(book, words)?))
     } else if kind == b"next".as_slice() {
         Ok(Question::NextChange(filter_named(book, words)?))
+    } else if kind == b"key".as_slice() {
+        key_shown(alloc, book, words)
     } else {
         Err(Refused::from(Misread::wrong(place, Expected::Keyword)))
     }
@@ -160,6 +163,17 @@ fn table_shown(alloc: Global, book: &Book, words: &mut Words<'_>) -> Result<Ques
     }
     let (table, sel) = table_and_sel(alloc, book, words)?;
     Ok(Question::Table { table, sel })
+}
+
+// Behind `show key`.
+#[tactic(auto, unfolding(crate::specs::Parse::key_shown))]
+fn key_shown(alloc: Global, book: &Book, words: &mut Words<'_>) -> Result<Question, Refused>
+    ensures read { Says (key_shown book.now words.old) result }
+    ensures spare { TakesMemoryAt 2 words.old.words result }
+{
+    let table = table_named(book, words)?;
+    let key = last_key(alloc, shape_of(book, table).kind, words)?;
+    Ok(Question::OneKey { table, key })
 }
 
 // Behind `clear`.
@@ -234,6 +248,15 @@ fn one_key(alloc: Global, kind: KeyKind, words: &mut Words<'_>) -> Result<Select
     ensures { Says (one_key kind words.old) result }
 {
     words.keyword(b"key")?;
+    Ok(Select::One(last_key(alloc, kind, words)?))
+}
+
+// The key that the last word says.
+#[tactic(auto, unfolding(crate::specs::Parse::last_key))]
+fn last_key(alloc: Global, kind: KeyKind, words: &mut Words<'_>) -> Result<Key, Refused>
+    ensures read { Says (last_key kind words.old) result }
+    ensures spare { TakesMemoryAt 1 words.old.words result }
+{
     let place = words.place();
     let text = words.word(Expected::Key)?;
     let Some(key) = read_key(alloc, kind, text)? else {
@@ -241,7 +264,7 @@ fn one_key(alloc: Global, kind: KeyKind, words: &mut Words<'_>) -> Result<Select
         return Err(Refused::at(CommandFault::BadKey, at));
     };
     words.end()?;
-    Ok(Select::One(key))
+    Ok(key)
 }
 
 // The filter of this name, from its table and conditions.

@@ -4,8 +4,8 @@ ghost use Rattle.std.specs.Prelude.{◌≡◌, ◌++◌, [], map, take, OnOk};
 ghost use Rattle.agg_types.specs.Col.{col_name};
 ghost use Rattle.show_clear.specs.Explained.{listed, names_text, printed, quoted};
 
-use crate::pieces::append_labelled;
 use agg_types::{Col, Named, NoMemory};
+use answer_text::append_labelled;
 use key_text::append_text;
 
 /// How many bytes of a word are told.

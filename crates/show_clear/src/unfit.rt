@@ -8,13 +8,11 @@ ghost use Rattle.show_clear.specs.Explained.{kind_text, quoted, shape_in, stored
 ghost use Rattle.show_clear.specs.Explained.{too_many_text, words_text};
 ghost use Rattle.show_clear.specs.declared.fault.CommandFault.TheVariants as faults;
 
-use crate::answers::shape_of;
 use crate::fleet::Book;
-use crate::pieces::append_counted;
 use crate::quoting::{append_columns, append_quoted};
-use crate::tables::kind_name;
 use agg_types::limits::LONGEST_NAME;
 use agg_types::{MOST_CONDS, MOST_FILTERS, NoMemory, Shape};
+use answer_text::{append_counted, kind_name, shape_of};
 use key_text::append_text;
 use line_words::word_at;
 

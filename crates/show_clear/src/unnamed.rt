@@ -40,7 +40,7 @@ fn append_not_shown(
     ensures { OnOk result
         (out.new.items ≡ out.old.items ++ not_shown book.now what.now name.now) }
 {
-    if what == b"table".as_slice() {
+    if what == b"table".as_slice() || what == b"key".as_slice() {
         append_no_table(book, name, out)
     } else if what == b"rank".as_slice() {
         append_no_rank(book, name, out)

@@ -1,14 +1,23 @@
 -- The texts of tables and their rows.
-use Rattle.std.specs.Prelude.{ℕ, List, ◌++◌, codes, slice_index, Option, None, Some}
-use Rattle.std.specs.Prelude.{if◌then◌else◌}
+use Rattle.std.specs.Prelude.{ℕ, List, [], ◌++◌, codes, slice_index, slice_index_or}
+use Rattle.std.specs.Prelude.{Option, None, Some, if◌then◌else◌}
 use Rattle.std.specs.Fmt.{decimal}
 use Rattle.std.specs.List.{flat_map}
 use Rattle.agg_types.specs.Col.{col_name, is_rate, place}
 use Rattle.agg_types.specs.Kind.{kind_name}
 use Rattle.agg_types.specs.declared.column.Col.{Col}
+use Rattle.agg_types.specs.declared.config.KeyKind.TheVariants.{Integer}
 use Rattle.agg_types.specs.declared.config.Shape.{Shape}
+use Rattle.fleet_model.specs.State.{State}
 use Rattle.fleet_model.specs.declared.summed.Summed.{Summed}
 use Rattle.key_text.specs.Printed.{key_text}
+
+abbrev pub no_shape : Shape
+no_shape = record { name = []; kind = Integer; size = 0; keep = None; cols = [] }
+
+-- the table at a position
+abbrev pub shape_of : State → ℕ → Shape
+shape_of state table = slice_index_or state.config.tables table no_shape
 
 -- the rows that each peer may hold, and the keys that there are
 abbrev pub counts_text : ℕ → ℕ → List ℕ

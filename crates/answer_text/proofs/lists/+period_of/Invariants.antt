@@ -1,5 +1,5 @@
 use Rattle.std.proofs.Common.{length}
-use Rattle.show_clear.proofs.lists.+period_of.Given as goal
+use Rattle.answer_text.proofs.lists.+period_of.Given as goal
 
 abbrev pub decreases-period_of : goal.decreases-period_of
 decreases-period_of l = length l.cols.now

@@ -1,6 +1,6 @@
 use Rattle.std.proofs.Common.{◌≡◌, ◌++◌, drop, length, take}
-use Rattle.show_clear.specs.Tables.{cells_text}
-use Rattle.show_clear.proofs.tables.append_cells.Given as goal
+use Rattle.answer_text.specs.Tables.{cells_text}
+use Rattle.answer_text.proofs.tables.append_cells.Given as goal
 
 -- what is written and what is left to write are all; what was there stays in front
 abbrev pub invariant-loop-col : goal.invariant-loop-col

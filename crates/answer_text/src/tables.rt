@@ -1,19 +1,27 @@
 //! The texts of tables and their rows.
 
-ghost use Rattle.std.specs.Prelude.{◌≡◌, ◌++◌, length, take, OnOk};
-ghost use Rattle.std.specs.List.{flat_map};
+ghost use Rattle.std.specs.Prelude.{◌≡◌, ◌++◌, ◌<◌, length, take, OnOk};
 ghost use Rattle.agg_types.specs.Kind.{kind_name};
-ghost use Rattle.show_clear.specs.Tables.{cell_text, cells_text, column_text, counts_text, heading};
-ghost use Rattle.show_clear.specs.Tables.{ms_or_never, row_text, sums_text, value_in};
+ghost use Rattle.answer_text.specs.Tables.{cell_text, cells_text, column_text, counts_text};
+ghost use Rattle.answer_text.specs.Tables.{heading, ms_or_never, row_text, shape_of, sums_text};
+ghost use Rattle.answer_text.specs.Tables.{value_in};
 
-use crate::fleet::Summed;
+use crate::fleet::{Book, Summed};
 use crate::pieces::{append_counted, append_labelled};
 use agg_types::{Col, Key, KeyKind, NoMemory, Shape};
 use key_text::{append_key, append_number, append_text};
 
+/// The table at a position.
+pub fn shape_of(book: &Book, table: usize) -> &Shape
+    requires { table < length book.now.config.tables }
+    ensures { result.now ≡ shape_of book.now table }
+{
+    &book.config().tables.as_slice()[table]
+}
+
 /// Appends the heading of a table with so many keys.
 #[tactic(auto, using(key_text::proofs::Begins::begins_then))]
-pub(crate) fn append_heading(shape: &Shape, used: u64, out: &mut Vec<u8>) -> Result<(), NoMemory>
+pub fn append_heading(shape: &Shape, used: u64, out: &mut Vec<u8>) -> Result<(), NoMemory>
     ensures ok { OnOk result (out.new.items ≡ out.old.items ++ heading shape.now used) }
     ensures begins { take (length out.old.items) out.new.items ≡ out.old.items }
 {
@@ -33,7 +41,7 @@ fn append_counts(size: u64, used: u64, out: &mut Vec<u8>) -> Result<(), NoMemory
 }
 
 /// The name of a kind of keys.
-pub(crate) fn kind_name(kind: KeyKind) -> &'static [u8]
+pub fn kind_name(kind: KeyKind) -> &'static [u8]
     ensures { result.now ≡ kind_name kind }
 {
     kind.name().as_bytes()
@@ -82,8 +90,12 @@ pub(crate) fn append_ms(ms: Option<u64>, out: &mut Vec<u8>) -> Result<(), NoMemo
     }
 }
 
-// Appends the stored columns of a summed row, each with its value.
-fn append_cells(sums: &Summed, cols: &[(Col, u32)], out: &mut Vec<u8>) -> Result<(), NoMemory>
+/// Appends the stored columns of a summed row, each with its value.
+pub(crate) fn append_cells(
+    sums: &Summed,
+    cols: &[(Col, u32)],
+    out: &mut Vec<u8>,
+) -> Result<(), NoMemory>
     ensures ok { OnOk result (out.new.items ≡ out.old.items ++ cells_text sums.now cols.now) }
     ensures begins { take (length out.old.items) out.new.items ≡ out.old.items }
 {
@@ -95,7 +107,7 @@ fn append_cells(sums: &Summed, cols: &[(Col, u32)], out: &mut Vec<u8>) -> Result
 
 /// Appends the line of a key's summed row.
 #[tactic(auto, using(key_text::proofs::Begins::begins_then))]
-pub(crate) fn append_row(
+pub fn append_row(
     shape: &Shape,
     key: &Key,
     sums: &Summed,

@@ -1,9 +1,9 @@
 //! The texts of standing filters and ranked lists.
 
 ghost use Rattle.std.specs.Prelude.{◌≡◌, ◌++◌, ◌≤◌, ◌<◌, ◌^◌, length, map, take, OnOk};
-ghost use Rattle.show_clear.specs.Answer.{change_text, held_text, key_line, period_of, place_text};
-ghost use Rattle.show_clear.specs.Answer.{places_text, ranking_text, title_text};
-ghost use Rattle.show_clear.specs.People.{change_ahead, distance_text};
+ghost use Rattle.answer_text.specs.Lists.{change_ahead, change_text, distance_text, held_text};
+ghost use Rattle.answer_text.specs.Lists.{key_line, period_of, place_text, places_text};
+ghost use Rattle.answer_text.specs.Lists.{ranking_text, title_text};
 ghost use Rattle.std.specs.List.{flat_map};
 
 use crate::fleet::Ranked;
@@ -25,7 +25,7 @@ fn append_title(title: &[u8], name: &[u8], shape: &Shape, out: &mut Vec<u8>) -> 
 
 /// Appends the heading of a standing filter that holds these keys, and the keys.
 #[tactic(auto, using(key_text::proofs::Begins::begins_then))]
-pub(crate) fn append_held(
+pub fn append_held(
     filter: &Filter,
     shape: &Shape,
     keys: &[&Key],
@@ -64,7 +64,7 @@ fn append_key_line(shape: &Shape, key: &Key, out: &mut Vec<u8>) -> Result<(), No
 
 /// Appends the moment at which a standing filter holds other keys, if there is one.
 #[tactic(auto, using(key_text::proofs::Begins::begins_then))]
-pub(crate) fn append_change(
+pub fn append_change(
     filter: &Filter,
     shape: &Shape,
     t: Option<u64>,
@@ -82,7 +82,7 @@ pub(crate) fn append_change(
 /// Appends the moment at which a standing filter holds other keys, if there is one, and how far off
 /// it is at a moment.
 #[tactic(auto, using(key_text::proofs::Begins::begins_then))]
-pub(crate) fn append_change_ahead(
+pub fn append_change_ahead(
     filter: &Filter,
     shape: &Shape,
     now: u64,
@@ -112,7 +112,7 @@ fn append_distance(now: u64, t: Option<u64>, out: &mut Vec<u8>) -> Result<(), No
 
 /// Appends the heading of a ranked list, and its keys.
 #[tactic(auto, using(key_text::proofs::Begins::begins_then))]
-pub(crate) fn append_ranking(
+pub fn append_ranking(
     rank: &Rank,
     shape: &Shape,
     entries: Ranked<'_>,

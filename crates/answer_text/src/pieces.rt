@@ -8,7 +8,7 @@ use key_text::{append_number, append_text};
 
 /// Appends a label and a text. After `NoMemory` the label may stand behind what was there.
 #[inline]
-pub(crate) fn append_labelled(label: &[u8], text: &[u8], out: &mut Vec<u8>) -> Result<(), NoMemory>
+pub fn append_labelled(label: &[u8], text: &[u8], out: &mut Vec<u8>) -> Result<(), NoMemory>
     ensures ok { OnOk result (out.new.items ≡ out.old.items ++ label.now ++ text.now) }
     ensures begins { take (length out.old.items) out.new.items ≡ out.old.items }
 {
@@ -18,7 +18,7 @@ pub(crate) fn append_labelled(label: &[u8], text: &[u8], out: &mut Vec<u8>) -> R
 
 /// Appends a label and a number. After `NoMemory` the label may stand behind what was there.
 #[inline]
-pub(crate) fn append_counted(label: &[u8], number: u128, out: &mut Vec<u8>) -> Result<(), NoMemory>
+pub fn append_counted(label: &[u8], number: u128, out: &mut Vec<u8>) -> Result<(), NoMemory>
     ensures ok { OnOk result (out.new.items ≡ out.old.items ++ label.now ++ decimal number) }
     ensures begins { take (length out.old.items) out.new.items ≡ out.old.items }
 {

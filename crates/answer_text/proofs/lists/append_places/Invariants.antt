@@ -1,6 +1,6 @@
 use Rattle.std.proofs.Common.{◌≡◌, ◌++◌, ◌+◌, ◌≤◌, ◌^◌, length, take}
-use Rattle.show_clear.specs.Answer.{places_text}
-use Rattle.show_clear.proofs.lists.append_places.Given as goal
+use Rattle.answer_text.specs.Lists.{places_text}
+use Rattle.answer_text.proofs.lists.append_places.Given as goal
 
 -- what is written and what is left to write are all; what was there stays in front
 abbrev pub invariant-loop-key : goal.invariant-loop-key

@@ -1,7 +1,7 @@
 use Rattle.std.proofs.Common.{◌≡◌, ◌++◌, drop, length, map, take}
 use Rattle.std.specs.List.{flat_map}
-use Rattle.show_clear.specs.Answer.{key_line}
-use Rattle.show_clear.proofs.lists.append_keys.Given as goal
+use Rattle.answer_text.specs.Lists.{key_line}
+use Rattle.answer_text.proofs.lists.append_keys.Given as goal
 
 -- what is written and what is left to write are all; what was there stays in front
 abbrev pub invariant-loop-key : goal.invariant-loop-key

@@ -1,0 +1,4 @@
+pub mod KeyAnswer
+pub mod Lists
+pub mod Names
+pub mod Tables
