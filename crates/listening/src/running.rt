@@ -3,7 +3,7 @@
 use crate::collecting::collect;
 use crate::disk::Paths;
 use collector_log::Memory;
-use program::{FAULT, Files, Prepared, arguments, prepare, tell};
+use program::{FAULT, Files, Prepared, arguments, prepare, tell, tell_no_words};
 use std::convert::AsStr;
 use std::env::Env;
 use std::io;
@@ -16,7 +16,7 @@ use std::time::Clock;
 
 /// Runs the program over its arguments, standard input and standard output, which are the host's,
 /// and these files, and answers the exit status. It collects over the threads, the clock and the
-/// sockets of `rt`.
+/// sockets of `rt`. A word that isn't UTF-8 is a bad command line: status 2.
 pub fn run<R, H, F, E>(rt: &R, host: &H, files: &F, errors: &mut E) -> u8
 where
     R: Threads + Wait + Copy + Send + Sync + 'static,
@@ -42,7 +42,10 @@ where
     F: Files + Paths,
     E: Write,
 {
-    let words = arguments(host)?;
+    let words = match arguments(host) {
+        Ok(words) => words,
+        Err(fault) => return tell_no_words(&fault, errors),
+    };
     let words = words.as_slice();
     let mut input = BufReader::new(host.alloc(), host.reader())?;
     let mut output = BufWriter::new(host.alloc(), io::writer(host))?;
