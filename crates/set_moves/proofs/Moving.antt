@@ -8,8 +8,8 @@ use Rattle.set_changes.specs.Numbered.{Says, Sets, said_of}
 use Rattle.set_changes.specs.declared.change.Change.{Change}
 use Rattle.standing_filters.specs.Flips.{later_of}
 use Rattle.standing_filters.specs.Turns.{same_key}
-use Rattle.set_moves.specs.Moving.{AreMoved, AreOrdered, FirstTurns, applied, earlier_of, first_of, has_entered}
-use Rattle.set_moves.specs.Moving.{has_key, has_left, is_in, is_out, said_by}
+use Rattle.set_moves.specs.Moving.{AreMoved, AreOrdered, FirstTurns, applied, earlier_of, first_of}
+use Rattle.set_moves.specs.Moving.{has_entered, has_key, has_left, is_in, is_out, said_by}
 
 -- ---- one more change
 
@@ -127,7 +127,8 @@ kept_none old later c key none is = by (same_key c.key key) refl
   where
     by : (b : Bool) → same_key c.key key ≡ b → later key ≡ earlier_of (old key) (said_by c key)
     by true same = is ∙ (ap (λ b. cond b (Some c.is_in) (old key)) same
-        ∙ sym (ap (λ o. earlier_of o (said_by c key)) (ap old (sym (same_if_at c.key key same)) ∙ none)
+        ∙ sym (ap (λ o. earlier_of o (said_by c key))
+        (ap old (sym (same_if_at c.key key same)) ∙ none)
         ∙ says_one c key same))
     by false other = is ∙ (ap (λ b. cond b (Some c.is_in) (old key)) other
         ∙ sym (ap (earlier_of (old key)) (says_none c key other) ∙ earlier_last (old key)))

@@ -1,5 +1,6 @@
 -- What the target of a request asks for: its path, and the words of its query.
-use Rattle.std.specs.Prelude.{◌≡◌, ◌≢◌, ℕ, ◌==◌, ◌||◌, if◌then◌else◌, nat_eq, nat_lt, List, [], ◌∷◌}
+use Rattle.std.specs.Prelude.{◌≡◌, ◌≢◌, ℕ, ◌==◌, ◌-◌, ◌||◌, Bool, if◌then◌else◌, nat_eq, nat_lt}
+use Rattle.std.specs.Prelude.{List, [], ◌∷◌}
 use Rattle.std.specs.Prelude.{codes, drop, length, map, position, take, Option, None, Some, is_some}
 use Rattle.std.specs.Prelude.{Result, Ok, Err, MatchResult}
 use Rattle.std.specs.List.{starts_with}
@@ -13,7 +14,7 @@ use Rattle.web_target.specs.declared.question.Question.{Question}
 use Rattle.web_target.specs.declared.question.Question.TheVariants as asks
 use Rattle.web_target.specs.declared.question.TargetFault.{TargetFault}
 use Rattle.web_target.specs.declared.question.TargetFault.TheVariants.{NotFound, Unknown, Twice}
-use Rattle.web_target.specs.declared.question.TargetFault.TheVariants.{BadLimit, NoMemory}
+use Rattle.web_target.specs.declared.question.TargetFault.TheVariants.{BadLimit, BadSince, NoMemory}
 use Rattle.web_target.specs.declared.question.Words.{Words}
 use Rattle.web_target.specs.declared.question.TheConstants.{FEWEST, MOST, USUAL}
 
@@ -59,6 +60,20 @@ with_limit words text =
     if is_some words.limit then Err Twice
     else limit_of text >>= λ limit. Ok (record words { limit = Some limit })
 
+-- a number from which on changes are told
+abbrev pub if_since : Result ℕ NumberFault → Read ℕ
+if_since (Ok since) = Ok since
+if_since (Err fault) = Err BadSince
+
+-- the number that a text tells changes from
+abbrev pub since_of : List ℕ → Read ℕ
+since_of text = if_since (number_of text)
+
+unfoldable pub with_since : Words → List ℕ → Read Words
+with_since words text =
+    if is_some words.since then Err Twice
+    else since_of text >>= λ since. Ok (record words { since = Some since })
+
 -- the text of a word that may stand there once
 abbrev pub text_once : Option (List ℕ) → List ℕ → Read (Option (List ℕ))
 text_once had text = if is_some had then Err Twice else Ok (Some (query_bytes text))
@@ -69,12 +84,18 @@ with_after words text = text_once words.after text >>= λ after. Ok (record word
 unfoldable pub with_conds : Words → List ℕ → Read Words
 with_conds words text = text_once words.conds text >>= λ conds. Ok (record words { conds = conds })
 
--- a piece that gives a text, or means nothing
+-- a piece that gives no text: a number, or it means nothing
+unfoldable pub with_number : Words → List ℕ → Read Words
+with_number words piece =
+    if starts_with nat_eq piece (codes "since=") then with_since words (drop 6 piece)
+    else Err Unknown
+
+-- a piece that is no limit
 unfoldable pub with_text : Words → List ℕ → Read Words
 with_text words piece =
     if starts_with nat_eq piece (codes "after=") then with_after words (drop 6 piece)
     else if starts_with nat_eq piece (codes "where=") then with_conds words (drop 6 piece)
-    else Err Unknown
+    else with_number words piece
 
 -- words with one more piece of a query; an empty one says nothing
 unfoldable pub with_piece : Words → List ℕ → Read Words
@@ -94,7 +115,7 @@ pieces_of None = []
 pieces_of (Some query) = parts 38 query
 
 abbrev pub no_words : Words
-no_words = record { limit = None; after = None; conds = None }
+no_words = record { limit = None; after = None; conds = None; since = None }
 
 -- the words of a query
 unfoldable pub words_in : Option (List ℕ) → Read Words
@@ -109,18 +130,45 @@ or_else usual (Some x) = x
 abbrev pub entries_of : Words → Part
 entries_of words = record { limit = or_else USUAL words.limit; after = words.after }
 
--- which entries words ask for, where no conditions may be
+-- which entries words ask for, where nothing else may be
 abbrev pub part_of : Words → Read Part
-part_of words = if is_some words.conds then Err Unknown else Ok (entries_of words)
+part_of words =
+    if is_some words.conds || is_some words.since then Err Unknown else Ok (entries_of words)
+
+-- whether words say which entries are asked for
+abbrev pub are_entries : Words → Bool
+are_entries words = is_some words.limit || is_some words.after || is_some words.conds
 
 unfoldable pub peers_of : Words → Read Question
 peers_of words = part_of words >>= λ part. Ok (asks.Peers part)
 
-abbrev pub table_of : List ℕ → Words → Question
-table_of name words = asks.Table name (or_else [] words.conds) (entries_of words)
+unfoldable pub table_of : List ℕ → Words → Read Question
+table_of name words =
+    if is_some words.since then Err Unknown
+    else Ok (asks.Table name (or_else [] words.conds) (entries_of words))
 
 unfoldable pub filter_of : List ℕ → Words → Read Question
 filter_of name words = part_of words >>= λ part. Ok (asks.Filter name part)
+
+-- what changed of a filter, since a number that need not be there
+unfoldable pub changes_of : List ℕ → Words → Read Question
+changes_of name words =
+    if are_entries words then Err Unknown else Ok (asks.Changes name words.since)
+
+-- the name of a filter, where `/changes` stands behind it
+abbrev pub filter_split : List ℕ → Option (List ℕ)
+filter_split text =
+    if bytes_eq (drop (length text - 8) text) (codes "/changes")
+    then Some (take (length text - 8) text) else None
+
+-- the keys of a filter, or what changed of them
+abbrev pub filter_or_changes : List ℕ → Option (List ℕ) → Words → Read Question
+filter_or_changes text None words = filter_of (percent_decode text) words
+filter_or_changes text (Some name) words = changes_of (percent_decode name) words
+
+-- the same, of what stands behind `filters/`
+abbrev pub in_filters : List ℕ → Read Words → Read Question
+in_filters text words = words >>= filter_or_changes text (filter_split text)
 
 unfoldable pub rank_of : List ℕ → Words → Read Question
 rank_of name words = part_of words >>= λ part. Ok (asks.Rank name part)
@@ -138,12 +186,12 @@ key_split text = split_at text (position (λ byte. byte == 47) text)
 -- one key of a table, of which no word of a query tells more
 unfoldable pub key_of : List ℕ → List ℕ → Words → Read Question
 key_of table key words =
-    if is_some words.limit || is_some words.after || is_some words.conds then Err Unknown
+    if are_entries words || is_some words.since then Err Unknown
     else Ok (asks.Key table key)
 
 -- a table, or one key of it
 abbrev pub table_or_key : List ℕ → Option (List ℕ × List ℕ) → Words → Read Question
-table_or_key text None words = Ok (table_of (percent_decode text) words)
+table_or_key text None words = table_of (percent_decode text) words
 table_or_key text (Some names) words =
     key_of (percent_decode names.0) (percent_decode names.1) words
 
@@ -155,7 +203,7 @@ in_tables text words = words >>= table_or_key text (key_split text)
 unfoldable pub listed_of : List ℕ → Read Words → Read Question
 listed_of path words =
     if starts_with nat_eq path (codes "filters/")
-    then (words >>= λ said. filter_of (percent_decode (drop 8 path)) said)
+    then in_filters (drop 8 path) words
     else if starts_with nat_eq path (codes "ranks/")
     then (words >>= λ said. rank_of (percent_decode (drop 6 path)) said)
     else Err NotFound

@@ -4,8 +4,9 @@ ghost use Rattle.std.specs.Prelude.{◌≡◌, IfOk};
 ghost use Rattle.std.specs.Option.{option_copied};
 ghost use Rattle.percent_encoding.specs.Percent.{percent_decode};
 ghost use Rattle.web_target.specs.Targets.{Reads, limit_of, plus_to_space, query_bytes, text_once};
-ghost use Rattle.web_target.specs.Targets.{with_after, with_conds, with_limit, with_piece};
-ghost use Rattle.web_target.specs.Targets.{with_text, words_in};
+ghost use Rattle.web_target.specs.Targets.{with_after, with_conds, with_limit, with_number};
+ghost use Rattle.web_target.specs.Targets.{with_piece, with_since};
+ghost use Rattle.web_target.specs.Targets.{since_of, with_text, words_in};
 
 use crate::question::{FEWEST, MOST, TargetFault, Words};
 use agg_types::{Items, NoMemory};
@@ -58,6 +59,27 @@ fn with_limit(words: Words, text: &[u8]) -> Result<Words, TargetFault>
     }
     let limit = Some(limit_of(text)?);
     Ok(Words { limit, ..words })
+}
+
+// The number that a text tells changes from.
+fn since_of(text: &[u8]) -> Result<u64, TargetFault>
+    ensures { result ≡ since_of text.now }
+{
+    match number(text) {
+        Ok(since) => Ok(since),
+        Err(_) => Err(TargetFault::BadSince),
+    }
+}
+
+#[tactic(auto, unfolding(crate::specs::Targets::with_since))]
+fn with_since(words: Words, text: &[u8]) -> Result<Words, TargetFault>
+    ensures { Reads (with_since words text.now) result }
+{
+    if words.since.is_some() {
+        return Err(TargetFault::Twice);
+    }
+    let since = Some(since_of(text)?);
+    Ok(Words { since, ..words })
 }
 
 // The text of a word that wasn't there before.
@@ -114,7 +136,18 @@ fn with_text(alloc: Global, words: Words, piece: &[u8]) -> Result<Words, TargetF
     } else if let Some(text) = piece.strip_prefix(b"where=") {
         with_conds(alloc, words, text)
     } else {
-        Err(TargetFault::Unknown)
+        with_number(words, piece)
+    }
+}
+
+// The words, with one more piece of the query that gives no text.
+#[tactic(auto, unfolding(crate::specs::Targets::with_number))]
+fn with_number(words: Words, piece: &[u8]) -> Result<Words, TargetFault>
+    ensures { Reads (with_number words piece.now) result }
+{
+    match piece.strip_prefix(b"since=") {
+        Some(text) => with_since(words, text),
+        None => Err(TargetFault::Unknown),
     }
 }
 
@@ -127,6 +160,7 @@ pub fn words_in(alloc: Global, query: Option<&[u8]>) -> Result<Words, TargetFaul
         limit: None,
         after: None,
         conds: None,
+        since: None,
     };
     let mut rest = query;
     while let Some(text) = rest {

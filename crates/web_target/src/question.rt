@@ -46,6 +46,11 @@ pub enum Question {
         name: Items<u8>,
         part: Part,
     },
+    /// What came into the set of a standing filter and what left it, behind a number of events.
+    Changes {
+        name: Items<u8>,
+        since: Option<u64>,
+    },
     /// The keys of a ranked list.
     Rank {
         name: Items<u8>,
@@ -71,6 +76,8 @@ pub struct Words {
     pub after: Option<Items<u8>>,
     /// The bytes that the text of `where` stands for.
     pub conds: Option<Items<u8>>,
+    /// The number of `since`.
+    pub since: Option<u64>,
 }
 
 /// What is wrong with a target.
@@ -88,6 +95,9 @@ pub enum TargetFault {
     /// `limit` is no number from 1 to 10,000.
     #[error("limit is a number from 1 to 10000")]
     BadLimit,
+    /// `since` is no number of 64 bits.
+    #[error("since is a number")]
+    BadSince,
     /// An allocation failed.
     #[error("out of memory")]
     NoMemory,

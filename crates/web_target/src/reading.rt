@@ -3,9 +3,10 @@
 ghost use Rattle.std.specs.Prelude.{◌≡◌, ◌≤◌, length, Some};
 ghost use Rattle.std.specs.Option.{option_copied, option_map};
 ghost use Rattle.web_target.specs.Targets.{Reads, ReadsBehind, asked_of, called_of, entries_of};
-ghost use Rattle.web_target.specs.Targets.{filter_of, in_tables, key_of, key_split, listed_of};
-ghost use Rattle.web_target.specs.Targets.{named_of, part_of, peers_of, question_of, rank_of};
-ghost use Rattle.web_target.specs.Targets.{split_at, table_of};
+ghost use Rattle.web_target.specs.Targets.{changes_of, filter_of, filter_split, in_filters};
+ghost use Rattle.web_target.specs.Targets.{in_tables, key_of, key_split, listed_of};
+ghost use Rattle.web_target.specs.Targets.{are_entries, named_of, part_of, peers_of, question_of};
+ghost use Rattle.web_target.specs.Targets.{rank_of, split_at, table_of};
 
 use crate::query::{path_bytes, words_in};
 use crate::question::{Part, Question, TargetFault, USUAL, Words};
@@ -89,7 +90,7 @@ fn table_or_key(
     ensures { ReadsBehind (in_tables text.now) words result }
 {
     match key_split(text) {
-        None => Ok(table_of(alloc, path_bytes(alloc, text)?, words?)),
+        None => table_of(alloc, path_bytes(alloc, text)?, words?),
         Some((table, key)) => key_of(path_bytes(alloc, table)?, path_bytes(alloc, key)?, words?),
     }
 }
@@ -127,11 +128,35 @@ fn listed_of(
     ensures { ReadsBehind (listed_of behind.now) words result }
 {
     if let Some(text) = behind.strip_prefix(b"filters/") {
-        filter_of(path_bytes(alloc, text)?, words?)
+        filter_or_changes(alloc, text, words)
     } else if let Some(text) = behind.strip_prefix(b"ranks/") {
         rank_of(path_bytes(alloc, text)?, words?)
     } else {
         Err(TargetFault::NotFound)
+    }
+}
+
+// The keys of a filter, or what changed of them.
+fn filter_or_changes(
+    alloc: Global,
+    text: &[u8],
+    words: Result<Words, TargetFault>,
+) -> Result<Question, TargetFault>
+    ensures { ReadsBehind (in_filters text.now) words result }
+{
+    match filter_split(text) {
+        None => filter_of(path_bytes(alloc, text)?, words?),
+        Some(name) => changes_of(path_bytes(alloc, name)?, words?),
+    }
+}
+
+// The name of a filter, where `/changes` stands behind it.
+fn filter_split(text: &[u8]) -> Option<&[u8]>
+    ensures { option_copied result ≡ filter_split text.now }
+{
+    match text.strip_suffix(b"/changes") {
+        None => None,
+        Some(name) => Some(name),
     }
 }
 
@@ -143,20 +168,25 @@ fn entries_of(words: Words) -> (Part, Option<Items<u8>>)
         limit,
         after,
         conds,
+        since: _,
     } = words;
     let limit = limit.unwrap_or(USUAL);
     (Part { limit, after }, conds)
 }
 
-fn table_of(alloc: Global, name: Items<u8>, words: Words) -> Question
+#[tactic(auto, unfolding(crate::specs::Targets::table_of))]
+fn table_of(alloc: Global, name: Items<u8>, words: Words) -> Result<Question, TargetFault>
     ensures { result ≡ table_of name words }
 {
+    if words.since.is_some() {
+        return Err(TargetFault::Unknown);
+    }
     let (part, conds) = entries_of(words);
     let conds = match conds {
         None => Items::from_vec(Vec::new(alloc)),
         Some(conds) => conds,
     };
-    Question::Table { name, conds, part }
+    Ok(Question::Table { name, conds, part })
 }
 
 // One key of a table, of which no word of a query tells more.
@@ -164,18 +194,38 @@ fn table_of(alloc: Global, name: Items<u8>, words: Words) -> Question
 fn key_of(table: Items<u8>, key: Items<u8>, words: Words) -> Result<Question, TargetFault>
     ensures { result ≡ key_of table key words }
 {
-    if words.limit.is_some() || words.after.is_some() || words.conds.is_some() {
+    if are_entries(&words) || words.since.is_some() {
         return Err(TargetFault::Unknown);
     }
     Ok(Question::Key { table, key })
+}
+
+// Whether words say which entries are asked for.
+fn are_entries(words: &Words) -> bool
+    ensures { result ≡ are_entries words.now }
+{
+    words.limit.is_some() || words.after.is_some() || words.conds.is_some()
+}
+
+// What changed of a filter, since a number that need not be there.
+#[tactic(auto, unfolding(crate::specs::Targets::changes_of))]
+fn changes_of(name: Items<u8>, words: Words) -> Result<Question, TargetFault>
+    ensures { result ≡ changes_of name words }
+{
+    if are_entries(&words) {
+        return Err(TargetFault::Unknown);
+    }
+    let since = words.since;
+    Ok(Question::Changes { name, since })
 }
 
 // Which entries are asked for, where no conditions are.
 fn part_of(words: Words) -> Result<Part, TargetFault>
     ensures { result ≡ part_of words }
 {
+    let is_since = words.since.is_some();
     let (part, conds) = entries_of(words);
-    if conds.is_some() {
+    if conds.is_some() || is_since {
         return Err(TargetFault::Unknown);
     }
     Ok(part)

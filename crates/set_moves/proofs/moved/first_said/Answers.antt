@@ -8,9 +8,10 @@ use Rattle.set_moves.proofs.moved.first_said.Goals as goal
 
 pub returns-in-Some-clause-kept : goal.returns-in-Some-clause-kept
 returns-in-Some-clause-kept c key =
-    let there : get (slice_cmp nat_cmp) c.args.firsts.now c.args.change.now.key ≡ Some c.in-Some.first
-    = cc (c.get.ensures.value, c.copied.ensures, c.in-Some.is) in
-    kept_some (get (slice_cmp nat_cmp) c.args.firsts.now) c.args.change.now c.in-Some.first key there
+    let firsts = get (slice_cmp nat_cmp) c.args.firsts.now in
+    let there : firsts c.args.change.now.key ≡ Some c.in-Some.first =
+    cc (c.get.ensures.value, c.copied.ensures, c.in-Some.is) in
+    kept_some firsts c.args.change.now c.in-Some.first key there
 
 pub returns-in_ok-insert-in-None-clause-kept : goal.returns-in_ok-insert-in-None-clause-kept
 returns-in_ok-insert-in-None-clause-kept c key =
