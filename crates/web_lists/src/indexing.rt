@@ -5,7 +5,7 @@ use std::alloc::Global;
 use web_text::Json;
 
 /// The paths that programs ask for. What stands in braces is a name, or a key.
-const PATHS: [&str; 9] = [
+const PATHS: [&str; 10] = [
     "/healthz",
     "/metrics",
     "/api/v1",
@@ -14,6 +14,7 @@ const PATHS: [&str; 9] = [
     "/api/v1/tables/{table}",
     "/api/v1/tables/{table}/keys/{key}",
     "/api/v1/filters/{filter}",
+    "/api/v1/filters/{filter}/changes",
     "/api/v1/ranks/{rank}",
 ];
 

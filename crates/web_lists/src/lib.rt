@@ -4,8 +4,11 @@
 //! comes by reference, so nothing here changes it. Of a filter's keys exactly the part is told that
 //! was asked for, and no more of them are kept (`keys_from`). Of a table's rows no more are looked
 //! for than are told, and one (`Book::first_rows`).
+//!
+//! What changed of a filter's set is told of what moved in it (`set_moves`), and else of the set.
 #![tactic(auto)]
 
+mod changes;
 mod indexing;
 mod lists;
 mod of_key;
@@ -13,6 +16,7 @@ mod parts;
 mod summing;
 mod values;
 
+pub use changes::{MOST_CHANGES, MOST_TOLD, Span, change_list};
 pub use indexing::index;
 pub use lists::{filter_list, rank_list, row_list, table_list};
 pub use of_key::one_key;
