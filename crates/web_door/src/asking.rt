@@ -73,8 +73,8 @@ pub fn list_of(
     }
 }
 
-// The place of a declared name.
-fn place_of<T: Named>(entries: &Declared<T>, name: &[u8]) -> Result<usize, ListFault>
+/// The place of a declared name.
+pub fn place_of<T: Named>(entries: &Declared<T>, name: &[u8]) -> Result<usize, ListFault>
     ensures { IfOk result (λ place. place < length entries.now) }
 {
     match entries.position(name) {

@@ -1,9 +1,10 @@
 //! Who answers the requests of a connection.
 
-ghost use Rattle.std.specs.Prelude.{◌≡◌};
+ghost use Rattle.std.specs.Prelude.{◌≡◌, true};
 ghost use Rattle.hub.specs.Posts.{Follows};
 
 use crate::asking::{ListFault, entries_of, list_of};
+use crate::changing::changes_of;
 use crate::checks::{health, query_of, refused_early};
 use crate::facts::Facts;
 use crate::looks::{Looks, Shared};
@@ -12,7 +13,7 @@ use agg_types::{Config, NoMemory};
 use bytes::Bytes;
 use http::{Request, StatusCode};
 use http_server::{Response, Service};
-use hub::{Lens, Naming};
+use hub::{Lens, Look, Naming};
 use show_clear::CommandFault;
 use std::alloc::{AllocError, Global};
 use std::marker::PhantomData;
@@ -97,6 +98,7 @@ fn unread(fault: TargetFault) -> Reply {
                 "limit is a number from 1 to 10000\n",
             )
         }
+        TargetFault::BadSince => { Reply::plain(StatusCode::BAD_REQUEST, "since is a number\n") }
         TargetFault::NoMemory => Reply::no_memory(),
     }
 }
@@ -146,6 +148,16 @@ fn made(alloc: Global, kind: Kind, text: Result<Vec<u8>, Refusal>) -> Reply {
     }
 }
 
+// What a question asks of a look.
+fn told_of(alloc: Global, look: &Look<'_>, question: &Question) -> Result<Vec<u8>, ListFault>
+    requires { look.now.lens.now.inside ≡ true }
+{
+    match question {
+        Question::Changes { name, since } => changes_of(alloc, look, name.as_slice(), *since),
+        _ => list_of(alloc, look.book(), look.receipt().len(), question),
+    }
+}
+
 impl<'a, J: Naming, R: Wait, C: Clock, F: Facts> Clerk<'a, J, R, C, F> {
     // The list that a question asks of the book, over one look.
     #[tactic(auto, using(crate::proofs::Later::follows_self))]
@@ -168,8 +180,7 @@ impl<'a, J: Naming, R: Wait, C: Clock, F: Facts> Clerk<'a, J, R, C, F> {
         let Some(look) = self.lens.look() else {
             return Err(Refusal::Busy);
         };
-        let events = look.receipt().len();
-        match list_of(self.alloc, look.book(), events, question) {
+        match told_of(self.alloc, &look, question) {
             Ok(text) => Ok(text),
             Err(fault) => Err(Refusal::List(fault)),
         }

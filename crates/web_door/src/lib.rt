@@ -11,11 +11,13 @@
 //! Promised of a clerk: each answer leaves its lens at a list of events that begins with the list
 //! of the answer before. So on one connection lists never shrink (`Clerk`'s `answers`). A look that
 //! is shared comes with a receipt, by which each clerk that tells of it learns its list. When one
-//! more look may begin, and what one costs, is exact (`Budget`). What the texts say, tests show.
+//! more look may begin, and what one costs, is exact (`Budget`). What moved in a filter's set is
+//! made of the changes behind the very number that was asked for. What the texts say, tests show.
 #![tactic(auto)]
 
 mod asking;
 mod budget;
+mod changing;
 mod checks;
 mod clerk;
 mod facts;
