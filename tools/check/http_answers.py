@@ -45,6 +45,7 @@ table empty type string len 31 size 1000 store gpc0
 filter {ODD_FILTER} /t data.gpc0 ge 100
 filter none empty data.gpc0 gt 0
 rank top /t gpc0 10
+push none
 """
 HELLO = f"HAProxyS 2.1\nagg\n{ODD_PEER} 1 1\n".encode()
 
@@ -152,6 +153,10 @@ def sound(report, port):
         ("/api/v1/tables/%2Ft", 200, "application/json"), ("/api/v1/tables//t", 200, "application/json"),
         ("/api/v1/filters/none", 200, "application/json"), ("/api/v1/ranks/top", 200, "application/json"),
         ("/nothing", 404, None), ("/api/v1/tables/no", 404, None), ("/api/v1/filters/no", 404, None),
+        ("/api/v1/filters/none/changes", 200, "application/json"), ("/api/v1/filters/none/changes?since=0", 200, None),
+        ("/api/v1/filters/no/changes", 404, None), ("/api/v1/filters/none/changes?since=x", 400, None),
+        ("/api/v1/filters/none/changes?since=1&since=1", 400, None), ("/api/v1/filters/none?since=1", 400, None),
+        ("/api/v1/filters/none/changes?since=1&limit=1", 400, None), ("/api/v1/tables/%2Ft?since=1", 400, None),
         ("/api/v1/ranks/no", 404, None), ("/api/v1/", 404, None), ("/api/v1/ranks/", 404, None),
         ("/api/v1/peers?limit=0", 400, None), ("/api/v1/peers?limit=10001", 400, None),
         ("/api/v1/peers?limit=10000", 200, None), ("/api/v1/peers?limit=x", 400, None),
@@ -213,6 +218,22 @@ def parts(report, port):
     held = told(port, f"/api/v1/filters/{name_of(ODD_FILTER)}?limit=10000")
     report.check("a filter of an odd name", 1, lambda: differs(
         (held["filter"], held["keys"], sorted(held["entries"])), (ODD_FILTER, KEYS - 100, sorted(address[100:]))))
+    path = f"/api/v1/filters/{name_of(ODD_FILTER)}/changes"
+    whole = told(port, path)
+    report.check("the set of a filter, to follow it from", 1, lambda: differs(
+        (whole["since"], whole["known"], whole["entered"], whole["left"], whole["more"]),
+        (None, False, address[100:], [], False)))
+    from_start = told(port, f"{path}?since=0")
+    report.check("what moved since the start", 1, lambda: differs(
+        (from_start["since"], from_start["known"], from_start["entered"], from_start["left"], from_start["more"]),
+        (0, True, address[100:], [], False)))
+    since = told(port, f"{path}?since={whole['to']}")
+    report.check("nothing moved since", 1, lambda: differs(
+        (since["since"], since["known"], since["entered"], since["left"], since["to"] >= whole["to"]),
+        (whole["to"], True, [], [], True)))
+    above = told(port, f"{path}?since={2 ** 64 - 1}")
+    report.check("what moved since a number to come isn't known", 1, lambda: differs(
+        (above["known"], above["entered"]), (False, address[100:])))
     peers = told(port, "/api/v1/peers")["entries"]
     report.check("peers", 1, lambda: differs([(p["name"], p["state"], p["updates"]) for p in peers],
                                              [(ODD_PEER, "connected", KEYS), ("lb2", "never", 0)]))

@@ -1,11 +1,13 @@
 //! What is answered over HTTP, in memory: targets, lists and figures of a book, for which hosts and
-//! how often, and by a clerk and a porter.
+//! how often, and by a clerk and a porter; and what a program is told that follows a filter's set.
 
 mod answers;
 mod bounds;
 mod clerks;
+mod following;
 mod targets;
 
+use crate::web::following::{CONFIG as FOLLOWED, follow, show_few};
 use anyhow::Result;
 use hub::Opening;
 use std::alloc::Global;
@@ -34,5 +36,8 @@ pub fn run<R: Print + Input + RandomSource + Wait>(rt: &R, alloc: Global) -> Res
     answers::show(rt, alloc)?;
     bounds::show(rt, alloc)?;
     let opening = Opening::new(alloc, config(alloc, CONFIG)?, 0)?;
-    clerks::show::<Brand, R>(rt, alloc, opening, RandomState::new(rt)?)
+    clerks::show::<Brand, R>(rt, alloc, opening, RandomState::new(rt)?)?;
+    show_few(rt, alloc)?;
+    let followed = Opening::new(alloc, config(alloc, FOLLOWED)?, 0)?;
+    follow::<Brand, R>(rt, alloc, followed, RandomState::new(rt)?)
 }

@@ -20,7 +20,7 @@ use web_text::Standing;
 
 /// What stands of a collector that is written down, and a clock: each time that it is asked, so many
 /// µs have passed.
-struct Paper {
+pub struct Paper {
     alloc: Global,
     hosts: Vec<String>,
     now: AtomicU64,
@@ -159,7 +159,7 @@ fn show_served<S: Service>(
 }
 
 /// What a connection that sends these bytes is answered by a clerk.
-fn answer<J: Naming, R: Print + Wait>(
+pub fn answer<J: Naming, R: Print + Wait>(
     rt: &R,
     hub: &Hub<J, &R>,
     looks: &Looks<J>,
@@ -195,7 +195,7 @@ fn answer_beside(rt: &impl Print, paper: &Paper, keys: RandomState) -> Result<()
 }
 
 /// A collector with one name of its own, whose clock gives so many µs more at each question.
-fn paper_of(alloc: Global, step: u64) -> Result<Paper> {
+pub fn paper_of(alloc: Global, step: u64) -> Result<Paper> {
     let mut hosts = Vec::new(alloc);
     hosts.push(String::from_str(alloc, "collector.example")?)?;
     Ok(Paper {

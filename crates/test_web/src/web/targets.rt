@@ -47,6 +47,7 @@ fn show_question(rt: &impl Print, question: &Question) -> Result<()> {
         }
         Question::Key { table, key } => show_key(rt, table.as_slice(), key.as_slice()),
         Question::Filter { name, part } => show_named(rt, "filter", name.as_slice(), part),
+        Question::Changes { name, since } => show_changes(rt, name.as_slice(), *since),
         Question::Rank { name, part } => show_named(rt, "rank", name.as_slice(), part),
     }
 }
@@ -62,6 +63,15 @@ fn show_key(rt: &impl Print, table: &[u8], key: &[u8]) -> Result<()> {
         key.escape_ascii(),
         table.escape_ascii()
     )?;
+    Ok(())
+}
+
+fn show_changes(rt: &impl Print, name: &[u8], since: Option<u64>) -> Result<()> {
+    print!(rt; "changes of \"{}\"", name.escape_ascii())?;
+    if let Some(since) = since {
+        print!(rt; " since {since}")?;
+    }
+    println!(rt;)?;
     Ok(())
 }
 
