@@ -2,9 +2,10 @@
 //!
 //! `listening` gives `Sockets` to the workers of `serve` as their doors. A connection's source is
 //! `Incoming` and its writer `Outgoing`; `Connections` knows all that there are of peers, and
-//! `Admins` hands on those of operators. `Ticks` is the machine's clock, whose moments are ms since
-//! the start. Which lines at the operators' door are HTTP's is promised (`begins_as_http`). Beside
-//! that nothing is but safety: no clause can say what a socket carried.
+//! `Admins` hands on those of operators, and has a question wait behind another one whose answer
+//! took long to make. `Ticks` is the machine's clock, whose moments are ms since the start. Which
+//! lines at the operators' door are HTTP's is promised (`begins_as_http`). Beside that nothing is
+//! but safety: no clause can say what a socket carried.
 #![tactic(auto)]
 
 mod admins;
