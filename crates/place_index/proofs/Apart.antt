@@ -6,7 +6,7 @@ use Rattle.std.proofs.lemmas.Bool.{ne_eqb}
 use Rattle.std.proofs.lemmas.Option.{none-some, same_Some, slice_get_within}
 use Rattle.std.specs.List.{filter}
 use Rattle.std.specs.Prelude.{◌≢◌}
-use Rattle.place_index.proofs.Lists.{slice_get-append_left, slice_get-append_right}
+use Rattle.segments.proofs.Lists.{slice_get-append_left, slice_get-append_right}
 use Rattle.place_index.specs.Loose.{IsLoose}
 
 pub loose_pushed : (xs : List ℕ) (at q : ℕ) → IsLoose xs q → IsLoose (xs ++ at ∷ []) q

@@ -1,7 +1,4 @@
-pub mod Lists
-pub mod Joined
 pub mod Held
-pub mod Words
 pub mod Leading
 mod Filled
 mod Apart

@@ -1,7 +1,6 @@
 use Rattle.std.specs.Prelude.{ℕ, List, Option, Some, None, slice_set, slice_get}
 use Rattle.std.specs.Borrow.{Lends, Fml, RattleType, MutBor}
 use Rattle.place_index.specs.Places.{Numbered, revalued}
-use Rattle.place_index.specs.Segments.{Roomy}
 use Rattle.std.specs.declared.cmp.Ord as ord
 use Rattle.std.specs.declared.cmp.PartialEq as partial_eq
 use Rattle.std.specs.declared.cmp.PartialOrd as partial_ord
@@ -9,22 +8,8 @@ use Rattle.place_index.specs.declared.key.IndexKey as index_key
 use Rattle.place_index.specs.declared.slots.Slot.{Slot}
 use Rattle.place_index.specs.declared.slots.Slots.{Slots}
 use Rattle.place_index.specs.contracts.index.PlaceIndex as place_index
-use Rattle.place_index.specs.contracts.segments.Segment as segment
-use Rattle.place_index.specs.contracts.segments.Segments as segments
 use Rattle.place_index.specs.contracts.slots.Slot as slot
 use Rattle.place_index.specs.contracts.slots.Slots as slots
-
--- a segment ends with the item of a number set to the last value behind r
-abbrev pub lends_item : (T : RattleType) → MutBor (List T.Denot) → ℕ → MutBor T.Denot → Fml
-lends_item T s at r = Lends (segment.the_row T) T s r (slice_set s.now at)
-
--- the items with another one at a number, and the same room
-abbrev pub with_item : {X : Type 0} → Roomy X → ℕ → X → Roomy X
-with_item s at item = record s { items = slice_set s.items at item }
-
--- segments end with the item of a number set to the last value behind r
-abbrev pub lends_joined : (T : RattleType) → MutBor (Roomy T.Denot) → ℕ → MutBor T.Denot → Fml
-lends_joined T s at r = Lends (segments.the_row T) T s r (with_item s.now at)
 
 -- a slot with another value
 abbrev pub with_value : {K V : Type 0} → Slot K V → V → Slot K V

@@ -1,7 +1,5 @@
 pub mod Places
 pub mod Hash
-pub mod Segments
-pub mod Windows
 pub mod Blank
 pub mod Slots
 pub mod Loose

@@ -4,7 +4,7 @@ use Rattle.std.specs.Vec.{vec_len, vec_capacity}
 use Rattle.place_index.specs.Crowd.{IsCrowded}
 use Rattle.place_index.specs.Loose.{IsLoose}
 use Rattle.place_index.specs.Places.{key_at, filled, AreDistinct}
-use Rattle.place_index.specs.Windows.{Has}
+use Rattle.hash_windows.specs.Windows.{Has}
 use Rattle.place_index.specs.declared.reach.Reach.{Reach}
 
 -- a place is reached from a key: by a word of its hash's window, by the ordered map, or since it

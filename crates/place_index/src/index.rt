@@ -9,9 +9,9 @@ ghost use Rattle.place_index.specs.Places.{AreDistinct, IsAbsent, AreEmpty};
 
 use crate::reach::Reach;
 use crate::slots::Slots;
-use crate::windows::{Near, Trace};
 use crate::{IndexKey, PlaceValue};
 use agg_types::NoMemory;
+use hash_windows::{Near, Trace};
 use std::alloc::Global;
 use std::marker::Model;
 

@@ -32,11 +32,8 @@
 //! of its own place is kept once for all, so all other places where it stands are empty. No value
 //! says that a place is empty, so whoever borrows one may write any.
 //!
-//! Windows are made one by one as places come, each out of one other whose words it parts. Places
-//! and windows lie in segments of 1,024, which never move; the memory of a segment is taken at
-//! once, and written only as items come. So an insert moves 16 words, and the list of the
-//! segments' addresses where that grows: at most 48 KB, up to four million places. `Segments` is
-//! that list of items by itself.
+//! Words lie in the windows of `hash_windows`, places in the blocks of `segments`, which never move
+//! an item. So an insert moves 16 words, and the list of the blocks' addresses where that grows.
 //!
 //! Who wants several keys, or empties several places, asks for what each needs first, then touches
 //! it, and only then looks or removes: so the waits for memory overlap. `trace`, `touch` and
@@ -56,16 +53,12 @@ mod crowd;
 mod index;
 mod key;
 mod marks;
-mod parting;
 mod reach;
-mod segments;
 mod slots;
 mod value;
-mod windows;
 
+pub use hash_windows::{Near, Trace};
 pub use index::PlaceIndex;
 pub use key::IndexKey;
-pub use segments::Segments;
 pub use slots::Slot;
 pub use value::PlaceValue;
-pub use windows::{Near, Trace};

@@ -2,8 +2,8 @@
 ghost use Rattle.std.specs.Prelude.{◌≡◌, ℕ, true, ◌%◌};
 ghost use Rattle.place_index.specs.Marks.{is_marked};
 
-use crate::windows::modulo;
 use agg_types::NoMemory;
+use hash_windows::modulo;
 use std::alloc::Global;
 
 /// Marks of hashes, by classes: a hash is marked once one of its class was. With no classes all are

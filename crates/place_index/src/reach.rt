@@ -6,14 +6,14 @@ ghost use Rattle.place_index.specs.Crowd.{IsCrowded};
 ghost use Rattle.place_index.specs.Loose.{IsLoose};
 ghost use Rattle.place_index.specs.Places.{key_at};
 ghost use Rattle.place_index.specs.Slots.{held};
-ghost use Rattle.place_index.specs.Windows.{word_of, IsIn};
+ghost use Rattle.hash_windows.specs.Windows.{word_of, IsIn};
 ghost use Rattle.place_index.specs.Reach.{Leads, spare};
 
 use crate::crowd::Crowd;
 use crate::slots::Slots;
-use crate::windows::{Near, Trace, Windows, Word, short, word_at};
 use crate::{IndexKey, PlaceValue};
 use agg_types::NoMemory;
+use hash_windows::{Near, Trace, Windows, Word, short, word_at};
 use std::alloc::Global;
 
 /// How a key's place is found: by a word of its hash's window, or by an ordered map of the keys

@@ -7,9 +7,9 @@ ghost use Rattle.place_index.specs.Places.{item_at, key_at, value_at, laid, reva
 ghost use Rattle.place_index.specs.Places.{AreEmpty, IsAbsent};
 ghost use Rattle.place_index.specs.Slots.{is_own, is_empty_at, held};
 
-use crate::segments::Segments;
 use crate::{IndexKey, PlaceValue};
 use agg_types::NoMemory;
+use segments::Segments;
 use std::alloc::Global;
 use std::mem;
 

@@ -10,7 +10,7 @@ use Rattle.std.specs.List.{AllByRecursion, IsDistinct, list_any}
 use Rattle.std.specs.List.Sorted.{IsStrictlySortedBy}
 use Rattle.std.proofs.lemmas.Map.Steps.{length-le_from_distinct_below}
 use borrow.Author.Tests.{eqb-true, ne_eqb}
-use Rattle.place_index.specs.Segments.{Roomy}
+use Rattle.segments.specs.Segments.{Roomy}
 use Rattle.place_order.specs.declared.nodes.Node.{Node}
 use Rattle.place_order.specs.Chains.{AreChained, last_of, walked}
 use Rattle.place_order.specs.Kept.{AreKept}

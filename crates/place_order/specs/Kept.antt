@@ -1,6 +1,6 @@
 -- What holds of places that are kept in order.
 use Rattle.std.specs.Prelude.{◌≤◌, ℕ, List}
-use Rattle.place_index.specs.Segments.{Roomy}
+use Rattle.segments.specs.Segments.{Roomy}
 use Rattle.place_order.specs.declared.nodes.Node.{Node}
 use Rattle.place_order.specs.Chains.{AreChained}
 use Rattle.place_order.specs.Orders.{AreBelow, AreDistinct}

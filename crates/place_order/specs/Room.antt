@@ -1,5 +1,5 @@
 use Rattle.std.specs.Prelude.{◌+◌, ℕ, length}
-use Rattle.place_index.specs.Segments.{Roomy}
+use Rattle.segments.specs.Segments.{Roomy}
 
 -- for how many items a list has memory
 abbrev pub space_in : {X : Type 0} → Roomy X → ℕ

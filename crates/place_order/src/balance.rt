@@ -4,7 +4,7 @@ ghost use Rattle.place_order.specs.Room.{space_in};
 ghost use Rattle.place_order.specs.Trees.{BecomesOne, node_in};
 
 use crate::nodes::{NONE, Node, height_of, join, node_at};
-use place_index::Segments;
+use segments::Segments;
 
 /// The root of a tree, and its height.
 #[derive(Clone, Copy)]

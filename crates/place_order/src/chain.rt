@@ -7,7 +7,7 @@ ghost use Rattle.place_order.specs.Room.{space_in};
 use crate::nodes::NONE;
 use crate::room::{fill, make_room};
 use agg_types::NoMemory;
-use place_index::Segments;
+use segments::Segments;
 use std::alloc::Global;
 
 /// For each place the one that comes next, and the first of so many.

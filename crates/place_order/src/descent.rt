@@ -10,7 +10,7 @@ ghost use Rattle.place_order.specs.Trees.{IsCut, IsMade, IsTreeOf};
 use crate::balance::{Change, balanced, settled};
 use crate::nodes::{NONE, Node, join, node_at};
 use crate::ranks::PlaceRanks;
-use place_index::Segments;
+use segments::Segments;
 use std::cmp::Ordering;
 
 /// A tree that a place came to or went from, and the last place whose rank is below that of the

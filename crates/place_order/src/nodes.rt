@@ -3,7 +3,7 @@ ghost use Rattle.std.specs.Prelude.{◌≡◌};
 ghost use Rattle.place_order.specs.Room.{space_in};
 ghost use Rattle.place_order.specs.Trees.{IsJoined, node_in};
 
-use place_index::Segments;
+use segments::Segments;
 
 /// Says that there is no place.
 pub(crate) const NONE: u32 = u32::MAX;

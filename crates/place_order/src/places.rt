@@ -5,7 +5,7 @@ ghost use Rattle.std.specs.Map.Iter.{TakesFirst};
 ghost use Rattle.place_order.specs.Chains.{walked};
 
 use crate::chain::{Chain, next_of};
-use place_index::Segments;
+use segments::Segments;
 use std::marker::Model;
 
 /// Lends places in order. Takes no memory.

@@ -3,7 +3,7 @@ ghost use Rattle.std.specs.Prelude.{◌≡◌, ◌<◌, ◌≤◌, ◌+◌, ℕ,
 ghost use Rattle.place_order.specs.Room.{space_in};
 
 use agg_types::NoMemory;
-use place_index::Segments;
+use segments::Segments;
 
 /// Takes the memory for each place below a number.
 pub(crate) fn make_room<T: Drop>(segments: &mut Segments<T>, places: usize) -> Result<(), NoMemory>

@@ -10,7 +10,7 @@ use crate::nodes::{BLANK, NONE, Node};
 use crate::ranks::PlaceRanks;
 use crate::room::{fill, make_room};
 use agg_types::NoMemory;
-use place_index::Segments;
+use segments::Segments;
 use std::alloc::Global;
 
 /// The nodes of places, of which one is the root.

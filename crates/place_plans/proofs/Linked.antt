@@ -6,8 +6,8 @@ use Rattle.std.proofs.lemmas.Bool.{cases_eq, cases_lt}
 use Rattle.std.proofs.lemmas.Option.{none-some, same_Some, slice_get_within, slice_get-get_or}
 use Rattle.std.specs.List.{swap_remove}
 use Rattle.std.specs.Prelude.{slice_set, slice_index_or, ◌⊎◌}
-use Rattle.place_index.proofs.Lists.{slice_get-append_left, slice_get-append_right}
-use Rattle.place_index.proofs.Lists.{slice_get-set_same, slice_get-set_other}
+use Rattle.segments.proofs.Lists.{slice_get-append_left, slice_get-append_right}
+use Rattle.segments.proofs.Lists.{slice_get-set_same, slice_get-set_other}
 use Rattle.place_plans.specs.Links.{AreLinked}
 
 get-take : {X : Type 0} (n : ℕ) (xs : List X) (i : ℕ) → i < n

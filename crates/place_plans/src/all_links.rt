@@ -7,7 +7,7 @@ ghost use Rattle.place_plans.specs.Links.{link_in};
 use crate::link::{Link, MOMENTS, NUMBERS};
 use crate::wide_link::WideLink;
 use agg_types::NoMemory;
-use place_index::Segments;
+use segments::Segments;
 use std::alloc::Global;
 
 /// The links of all places: in eight bytes each, until a moment or a number comes that wants

@@ -1,7 +1,7 @@
 use Rattle.std.proofs.Common.{◌∙◌}
 use Rattle.std.proofs.lemmas.Option.{none-some, same_Some}
 use Rattle.place_index.proofs.Leading.{if_none}
-use Rattle.place_index.specs.Windows.{word_of}
+use Rattle.hash_windows.specs.Windows.{word_of}
 use Rattle.place_index.proofs.reach.named_at.Goals as goal
 
 pub returns-in-Some-clause-none : goal.returns-in-Some-clause-none

@@ -2,7 +2,7 @@ use Rattle.std.proofs.Common.{◌≡◌, ◌<◌, Some, length, slice_get, subst
 use Rattle.std.proofs.lemmas.Bool.{cases_eq}
 use Rattle.std.proofs.lemmas.Option.{slice_get_within}
 use Rattle.place_index.proofs.Leading.{if_none_at}
-use Rattle.place_index.specs.Windows.{word_of}
+use Rattle.hash_windows.specs.Windows.{word_of}
 use Rattle.place_index.proofs.reach.named_in.Goals as goal
 
 pub loop-index-preserved : goal.loop-index-preserved

@@ -1,7 +1,7 @@
 use Rattle.std.proofs.Common.{◌≡◌, ◌<◌, ℕ, Some, slice_get}
 use Rattle.place_index.specs.Places.{key_at}
 use Rattle.place_index.specs.Slots.{held}
-use Rattle.place_index.specs.Windows.{word_of}
+use Rattle.hash_windows.specs.Windows.{word_of}
 use Rattle.place_index.proofs.reach.named_in.Given as goal
 
 abbrev pub invariant-loop-index : goal.invariant-loop-index

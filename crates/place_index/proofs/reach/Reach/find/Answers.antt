@@ -1,9 +1,9 @@
 use Rattle.std.proofs.Common.{sym, ap, ◌∙◌, subst, inl, inr}
 use Rattle.place_index.proofs.Leading.{if_none, if_none_at}
-use Rattle.place_index.proofs.Words.{in_window}
+use Rattle.hash_windows.proofs.Words.{in_window}
 use Rattle.place_index.specs.Crowd.{IsCrowded}
 use Rattle.place_index.specs.Loose.{IsLoose}
-use Rattle.place_index.specs.Windows.{short_of}
+use Rattle.hash_windows.specs.Windows.{short_of}
 use Rattle.place_index.proofs.reach.Reach.find.Goals as goal
 
 pub returns-clause-none : goal.returns-clause-none
