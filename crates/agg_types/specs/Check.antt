@@ -11,12 +11,14 @@ use Rattle.agg_types.specs.declared.limits.TheConstants.{HOLD_END, LARGEST_SIZE,
 use Rattle.agg_types.specs.declared.limits.TheConstants.{LONGEST_RANK, SHORTEST_HOLD}
 use Rattle.agg_types.specs.declared.limits.TheConstants.{MOST_CONDS, MOST_FILTERS, MOST_PEERS}
 use Rattle.agg_types.specs.declared.limits.TheConstants.{MOST_PUSHES, MOST_RANKS, MOST_ROWS}
-use Rattle.agg_types.specs.declared.limits.TheConstants.{MOST_TABLES}
+use Rattle.agg_types.specs.declared.limits.TheConstants.{MOST_IGNORED, MOST_LOGS, MOST_TABLES}
 use Rattle.agg_types.specs.declared.limits.TheConstants.{PERIOD_END}
 use Rattle.agg_types.specs.declared.config.Config.{Config}
 use Rattle.agg_types.specs.declared.config.Filter.{Filter}
+use Rattle.agg_types.specs.declared.config.Ignored.{Ignored}
 use Rattle.agg_types.specs.declared.config.KeyKind.{KeyKind}
 use Rattle.agg_types.specs.declared.config.KeyKind.TheVariants.{Integer, Ip, Ipv6, Str, Binary}
+use Rattle.agg_types.specs.declared.config.Logged.{Logged}
 use Rattle.agg_types.specs.declared.config.Push.{Push}
 use Rattle.agg_types.specs.declared.config.Rank.{Rank}
 use Rattle.agg_types.specs.declared.config.Shape.{Shape}
@@ -122,6 +124,23 @@ push_faults tables filters before push =
     ++ fault_if (not (list_any (λ filter. bytes_eq filter.name push.name) filters)) UnknownFilter
     ++ fault_if (not (hold_fits push.hold)) BadPeriod
 
+-- the faults of a filter whose keys the log tells, which follow from those before it
+unfoldable pub log_faults : List Filter → List Logged → Logged → List ConfigFault
+log_faults filters before logged =
+    fault_if (nat_le MOST_LOGS (length before)) TooMany
+    ++ fault_if (list_any (λ other. bytes_eq other.filter logged.filter) before) Duplicate
+    ++ fault_if (not (list_any (λ filter. bytes_eq filter.name logged.filter) filters))
+    UnknownFilter
+
+-- the faults of a name whose tables are ignored, which follow from those before it: no table that
+-- is followed has it
+unfoldable pub ignored_faults : List Shape → List Ignored → Ignored → List ConfigFault
+ignored_faults tables before ignored =
+    fault_if (nat_le MOST_IGNORED (length before)) TooMany
+    ++ fault_if (not (is_name ignored.table)) BadName
+    ++ fault_if (list_any (λ other. bytes_eq other.table ignored.table) before
+    || list_any (λ shape. bytes_eq shape.name ignored.table) tables) Duplicate
+
 -- all peers together may hold 1 to 2^40 rows, where there is a bound
 abbrev pub rows_fit : Option ℕ → Bool
 rows_fit None = true
@@ -137,12 +156,14 @@ config_faults config =
     ++ each (rank_faults config.tables) [] config.ranks
 
 -- the faults of a configuration, in the order in which they count: those of what it follows, of
--- what it pushes, and of its bound on all rows
+-- what it pushes, of its bound on all rows, of what it logs, and of what it ignores
 abbrev pub all_faults : Config → List ConfigFault
 all_faults config =
     config_faults config
     ++ each (push_faults config.tables config.filters) [] config.pushes
     ++ fault_if (not (rows_fit config.rows)) BadSize
+    ++ each (log_faults config.filters) [] config.logs
+    ++ each (ignored_faults config.tables) [] config.ignored
 
 -- Ok where there are no faults, else the first of them
 abbrev pub FindsFirst : Result (Unit {0}) ConfigFault → List ConfigFault → Type 0

@@ -6,6 +6,8 @@ use Rattle.agg_types.specs.declared.column.Col.TheVariants.{ConnCur, SessCnt, Se
 use Rattle.agg_types.specs.declared.column.Col.TheVariants.{HttpReqRate, HttpErrCnt, HttpErrRate}
 use Rattle.agg_types.specs.declared.column.Col.TheVariants.{BytesInCnt, BytesInRate, BytesOutCnt}
 use Rattle.agg_types.specs.declared.column.Col.TheVariants.{BytesOutRate, Gpc1, Gpc1Rate}
+use Rattle.agg_types.specs.declared.column.Col.TheVariants.{HttpFailCnt, HttpFailRate, GlitchCnt}
+use Rattle.agg_types.specs.declared.column.Col.TheVariants.{GlitchRate}
 use Rattle.agg_types.specs.declared.column.ColKind.{ColKind}
 use Rattle.agg_types.specs.declared.column.ColKind.TheVariants.{Count, WideCount, Rate}
 
@@ -35,6 +37,10 @@ info BytesOutCnt = record { id = 15; name = codes "bytes_out_cnt"; kind = WideCo
 info BytesOutRate = record { id = 16; name = codes "bytes_out_rate"; kind = Rate }
 info Gpc1 = record { id = 17; name = codes "gpc1"; kind = Count }
 info Gpc1Rate = record { id = 18; name = codes "gpc1_rate"; kind = Rate }
+info HttpFailCnt = record { id = 20; name = codes "http_fail_cnt"; kind = Count }
+info HttpFailRate = record { id = 21; name = codes "http_fail_rate"; kind = Rate }
+info GlitchCnt = record { id = 25; name = codes "glitch_cnt"; kind = Count }
+info GlitchRate = record { id = 26; name = codes "glitch_rate"; kind = Rate }
 
 -- the number of a column's data type in the peers protocol
 abbrev pub col_id : Col → ℕ
@@ -72,7 +78,7 @@ same_col a b = col_id a == col_id b
 abbrev pub all_cols : List Col
 all_cols = Gpc0 ∷ Gpc0Rate ∷ ConnCnt ∷ ConnRate ∷ ConnCur ∷ SessCnt ∷ SessRate ∷ HttpReqCnt ∷
     HttpReqRate ∷ HttpErrCnt ∷ HttpErrRate ∷ BytesInCnt ∷ BytesInRate ∷ BytesOutCnt ∷
-    BytesOutRate ∷ Gpc1 ∷ Gpc1Rate ∷ []
+    BytesOutRate ∷ Gpc1 ∷ Gpc1Rate ∷ HttpFailCnt ∷ HttpFailRate ∷ GlitchCnt ∷ GlitchRate ∷ []
 
 -- where a column stands among all
 abbrev pub place : Col → ℕ

@@ -5,24 +5,26 @@ ghost use Rattle.agg_types.specs.Col.{col_id};
 ghost use Rattle.agg_types.specs.FaultName.{config_fault_name};
 ghost use Rattle.agg_types.specs.Check.{FindsFirst, all_faults, ascends, each, filter_faults};
 ghost use Rattle.agg_types.specs.Check.{hold_fits, is_within, keep_fits, peer_faults, period_fits};
-ghost use Rattle.agg_types.specs.Check.{push_faults, rank_faults, rows_fit, table_faults};
+ghost use Rattle.agg_types.specs.Check.{ignored_faults, log_faults, push_faults, rank_faults};
+ghost use Rattle.agg_types.specs.Check.{rows_fit, table_faults};
 
 use crate::fits::all_stored;
 use crate::limits::{
-    HOLD_END, LARGEST_SIZE, LONGEST_RANK, MOST_CONDS, MOST_FILTERS, MOST_PEERS, MOST_PUSHES,
-    MOST_RANKS, MOST_ROWS, MOST_TABLES, PERIOD_END, SHORTEST_HOLD,
+    HOLD_END, LARGEST_SIZE, LONGEST_RANK, MOST_CONDS, MOST_FILTERS, MOST_IGNORED, MOST_LOGS,
+    MOST_PEERS, MOST_PUSHES, MOST_RANKS, MOST_ROWS, MOST_TABLES, PERIOD_END, SHORTEST_HOLD,
 };
-use crate::{Col, Config, Declared, Filter, Name, Named, Push, Rank, Shape};
+use crate::{Col, Config, Declared, Filter, Ignored, Logged, Name, Named, Push, Rank, Shape};
 use std::error::Error;
 use std::fmt;
 
 /// What is wrong with a configuration. Its text is its name.
 #[derive(Clone, Copy, Debug, PartialEq, Eq)]
 pub enum ConfigFault {
-    /// A name stands twice among its kind, a table's columns don't ascend, or a pushed filter has
-    /// the name of a table.
+    /// A name stands twice among its kind, a table's columns don't ascend, a pushed filter has the
+    /// name of a table, or a table is both followed and ignored.
     Duplicate,
-    /// More peers, tables, filters, conditions, ranked lists or pushed filters than there may be.
+    /// More peers, tables, filters, conditions, ranked lists, pushed filters, logged filters or
+    /// ignored tables than there may be.
     TooMany,
     /// A filter or a ranked list of a table that isn't there.
     UnknownTable,
@@ -36,7 +38,7 @@ pub enum ConfigFault {
     BadSize,
     /// A name that is empty, has more than 128 bytes, or a byte outside 33 to 126.
     BadName,
-    /// A push of a filter that isn't there.
+    /// A push or a log of a filter that isn't there.
     UnknownFilter,
 }
 
@@ -69,9 +71,9 @@ impl Error for ConfigFault {}
 
 impl Config {
     /// Whether the configuration is sound. The fault is the first, in the order of the collector's
-    /// name, peers, tables, filters, ranked lists, pushed filters and the bound on all rows; in an
-    /// entry TooMany comes first, then BadName, Duplicate, UnknownTable, UnknownColumn,
-    /// UnknownFilter, BadPeriod, BadSize.
+    /// name, peers, tables, filters, ranked lists, pushed filters, the bound on all rows, logged
+    /// filters and ignored tables; in an entry TooMany comes first, then BadName, Duplicate,
+    /// UnknownTable, UnknownColumn, UnknownFilter, BadPeriod, BadSize.
     pub fn check(&self) -> Result<(), ConfigFault>
         ensures { FindsFirst result (all_faults self.now) }
     {
@@ -86,7 +88,8 @@ impl Config {
         if !rows_fit(self.rows) {
             return Err(ConfigFault::BadSize);
         }
-        Ok(())
+        check_each(self, &self.logs)?;
+        check_each(self, &self.ignored)
     }
 }
 
@@ -255,6 +258,52 @@ impl Checked for Push {
         }
         if !hold_fits(self.hold) {
             return Err(ConfigFault::BadPeriod);
+        }
+        Ok(())
+    }
+}
+
+impl Checked for Logged {
+    ghost faults = { λ config. log_faults config.filters };
+
+    #[tactic(auto, unfolding(crate::specs::Check::log_faults))]
+    fn check_behind(
+        &self,
+        config: &Config,
+        before: &[Logged],
+        named: bool,
+    ) -> Result<(), ConfigFault> {
+        if before.len() >= MOST_LOGS {
+            return Err(ConfigFault::TooMany);
+        }
+        if named {
+            return Err(ConfigFault::Duplicate);
+        }
+        if !config.filters.contains(self.filter.as_slice()) {
+            return Err(ConfigFault::UnknownFilter);
+        }
+        Ok(())
+    }
+}
+
+impl Checked for Ignored {
+    ghost faults = { λ config. ignored_faults config.tables };
+
+    #[tactic(auto, unfolding(crate::specs::Check::ignored_faults))]
+    fn check_behind(
+        &self,
+        config: &Config,
+        before: &[Ignored],
+        named: bool,
+    ) -> Result<(), ConfigFault> {
+        if before.len() >= MOST_IGNORED {
+            return Err(ConfigFault::TooMany);
+        }
+        if !self.table.is_valid() {
+            return Err(ConfigFault::BadName);
+        }
+        if named || config.tables.contains(self.table.as_slice()) {
+            return Err(ConfigFault::Duplicate);
         }
         Ok(())
     }

@@ -3,10 +3,14 @@ ghost use Rattle.std.specs.Str.{bytes_eq};
 ghost use Rattle.agg_types.specs.Col.{all_cols, col_id, col_name, info, is_rate, is_wide, place};
 
 /// How many columns there are.
-pub const COLUMNS: usize = 17;
+pub const COLUMNS: usize = 21;
 
 /// The greatest number of a column's data type in the peers protocol.
-pub const LAST_TYPE: u64 = 18;
+pub const LAST_TYPE: u64 = 26;
+
+/// The greatest number of the data types that are single values in every version of the protocol:
+/// behind it stand a dictionary's entry (19) and arrays (22 to 24), too.
+pub const LAST_BASIC_TYPE: u64 = 18;
 
 /// A column of stick tables that can be added up over a fleet: the stored data types of HAProxy's
 /// Configuration Manual ("stick-table", `store`), save those that are no sums.
@@ -49,6 +53,14 @@ pub enum Col {
     Gpc1,
     /// Rate of increments of the second general purpose counter.
     Gpc1Rate,
+    /// HTTP responses that failed.
+    HttpFailCnt,
+    /// Rate of failed HTTP responses.
+    HttpFailRate,
+    /// Glitches of HTTP/2 and HTTP/3 connections.
+    GlitchCnt,
+    /// Rate of glitches.
+    GlitchRate,
 }
 
 /// What the values of a column are.
@@ -103,6 +115,10 @@ impl Col {
         Col::BytesOutRate,
         Col::Gpc1,
         Col::Gpc1Rate,
+        Col::HttpFailCnt,
+        Col::HttpFailRate,
+        Col::GlitchCnt,
+        Col::GlitchRate,
     ];
 
     /// The number, the name and the kind: a column a line.
@@ -129,6 +145,10 @@ impl Col {
             Col::BytesOutRate => ColInfo::of(16, "bytes_out_rate", ColKind::Rate),
             Col::Gpc1 => ColInfo::of(17, "gpc1", ColKind::Count),
             Col::Gpc1Rate => ColInfo::of(18, "gpc1_rate", ColKind::Rate),
+            Col::HttpFailCnt => ColInfo::of(20, "http_fail_cnt", ColKind::Count),
+            Col::HttpFailRate => ColInfo::of(21, "http_fail_rate", ColKind::Rate),
+            Col::GlitchCnt => ColInfo::of(25, "glitch_cnt", ColKind::Count),
+            Col::GlitchRate => ColInfo::of(26, "glitch_rate", ColKind::Rate),
         }
     }
 

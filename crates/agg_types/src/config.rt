@@ -136,9 +136,36 @@ impl Drop for Push {
     }
 }
 
+/// A filter of which the log tells each key that comes into its set or leaves it.
+#[derive(Debug)]
+pub struct Logged {
+    pub filter: Name,
+}
+
+// By hand, so that what drops it elsewhere proves nothing of its parts.
+impl Drop for Logged {
+    fn drop(self) {
+        let Logged { filter: _ } = self;
+    }
+}
+
+/// A table that proxies define under this name and that isn't followed on purpose.
+#[derive(Debug)]
+pub struct Ignored {
+    pub table: Name,
+}
+
+// By hand, so that what drops it elsewhere proves nothing of its parts.
+impl Drop for Ignored {
+    fn drop(self) {
+        let Ignored { table: _ } = self;
+    }
+}
+
 /// A collector's configuration: its own name, and its peers, tables, filters and ranked lists,
-/// which events name by position, the filters that it pushes, and how many rows all peers may hold
-/// together, where that has a bound.
+/// which events name by position, the filters that it pushes, how many rows all peers may hold
+/// together, where that has a bound, the filters whose keys its log tells, and the tables that it
+/// leaves out without telling.
 #[derive(Debug)]
 pub struct Config {
     pub me: Name,
@@ -148,6 +175,8 @@ pub struct Config {
     pub ranks: Declared<Rank>,
     pub pushes: Declared<Push>,
     pub rows: Option<u64>,
+    pub logs: Declared<Logged>,
+    pub ignored: Declared<Ignored>,
 }
 
 // By hand, so that what drops it elsewhere proves nothing of its parts.
@@ -161,6 +190,8 @@ impl Drop for Config {
             ranks: _,
             pushes: _,
             rows: _,
+            logs: _,
+            ignored: _,
         } = self;
     }
 }
@@ -267,6 +298,34 @@ impl Push {
     }
 }
 
+impl Named for Logged {
+    ghost name_of = { λ logged. logged.filter };
+
+    fn name(&self) -> &[u8] {
+        self.filter.as_slice()
+    }
+
+    fn again(&self, alloc: Global) -> Result<Logged, NoMemory> {
+        Ok(Logged {
+            filter: self.filter.duplicate(alloc)?,
+        })
+    }
+}
+
+impl Named for Ignored {
+    ghost name_of = { λ ignored. ignored.table };
+
+    fn name(&self) -> &[u8] {
+        self.table.as_slice()
+    }
+
+    fn again(&self, alloc: Global) -> Result<Ignored, NoMemory> {
+        Ok(Ignored {
+            table: self.table.duplicate(alloc)?,
+        })
+    }
+}
+
 impl Config {
     /// An equal configuration: every field agrees.
     pub fn duplicate(&self, alloc: Global) -> Result<Config, NoMemory>
@@ -280,6 +339,8 @@ impl Config {
             ranks: self.ranks.duplicate(alloc)?,
             pushes: self.pushes.duplicate(alloc)?,
             rows: self.rows,
+            logs: self.logs.duplicate(alloc)?,
+            ignored: self.ignored.duplicate(alloc)?,
         })
     }
 }

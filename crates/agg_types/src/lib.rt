@@ -40,8 +40,8 @@ mod words;
 
 pub use cells::Cells;
 pub use check::ConfigFault;
-pub use column::{COLUMNS, Col, ColInfo, ColKind, LAST_TYPE};
-pub use config::{Cond, Config, Filter, KeyKind, Op, Push, Rank, Shape};
+pub use column::{COLUMNS, Col, ColInfo, ColKind, LAST_BASIC_TYPE, LAST_TYPE};
+pub use config::{Cond, Config, Filter, Ignored, KeyKind, Logged, Op, Push, Rank, Shape};
 pub use declared::{Declared, Named};
 pub use event::{Cell, Event, Select, What};
 pub use form::UpdateForm;

@@ -15,6 +15,12 @@ pub const MOST_RANKS: usize = 16;
 /// The most filters that are pushed.
 pub const MOST_PUSHES: usize = 16;
 
+/// The most filters whose keys the log tells as they come and go.
+pub const MOST_LOGS: usize = 32;
+
+/// The most names under which tables are ignored.
+pub const MOST_IGNORED: usize = 256;
+
 /// The shortest hold of a pushed filter, in ms.
 pub const SHORTEST_HOLD: u64 = 1000;
 

@@ -39,6 +39,8 @@ fleet_of size col period filters =
       ranks = [];
       pushes = [];
       rows = None;
+      logs = [];
+      ignored = [];
     }
 
 -- the key 10.0.0.n

@@ -32,7 +32,8 @@ pub fn size_limit()
 {}
 
 /// All peers together may hold three rows. A key of which another peer alone holds a row isn't
-/// taken, one that its own peer holds is; and a new one is once the row that lives 100 ms has ended.
+/// taken, one that its own peer holds is; and a new one is once the row that lives 100 ms has
+/// ended.
 pub fn row_bound()
     ensures full { view_of_table
         (left_by (bounded 3 (fleet_of 100 Gpc0 0 []))
