@@ -10,8 +10,8 @@
 //! above four times of what it bounds. So a count that grows moves its entry each time it doubles,
 //! and a value that moves a little moves nothing. A list looks at all keys whose bound isn't below
 //! the value that it gives: where values are spread, a few more than it gives; where nearly all
-//! have as many digits, nearly all. Each of these is searched by its hash. So who can go through all
-//! keys as their rows lie asks `looks_at_most` first, and goes where the list would look far:
+//! have as many digits, nearly all. Each of these is searched by its hash. So who can go through
+//! all keys as their rows lie asks `looks_at_most` first, and goes where the list would look far:
 //! `Best` keeps the best of keys that come in any order, and gives what the list would give.
 //! `Leaders` keeps bounds for several lists, by their positions.
 //!

@@ -63,7 +63,8 @@ impl<'a, V: Values> Model for Ranked<'a, V> {
       ahead = r.ahead;
     } };
 
-    ghost invariant = { λ r. AreBounds (λ key. V.living r.values.now r.wanted.table key r.wanted.now)
+    ghost invariant = { λ r. AreBounds
+        (λ key. V.living r.values.now r.wanted.table key r.wanted.now)
         (λ key. V.summed r.values.now r.wanted.table key r.wanted.col r.wanted.now) r.ahead
         × (vec_len r.candidates ≤ r.left) × (r.left < vec_capacity r.candidates)
         × AreRanked (map view_of_candidate r.candidates.items)

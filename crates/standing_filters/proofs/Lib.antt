@@ -15,3 +15,4 @@ pub mod Lent
 pub mod Marking
 pub mod Forgotten
 pub mod Settling
+pub mod Unmarked

@@ -5,7 +5,7 @@ use Rattle.std.specs.Prelude.{None, Some, count_by, filter, if◌then◌else◌,
 use Rattle.std.specs.Prelude.{unwrap_or}
 use Rattle.std.specs.BTreeMap.{is_at}
 use Rattle.std.specs.Cmp.Lexicographic.{slice_cmp}
-use Rattle.std.specs.List.{AllZip, list_any}
+use Rattle.std.specs.List.{AllByRecursion, AllZip, list_any}
 use Rattle.std.specs.Map.{lookup}
 use Rattle.std.specs.Ordering.{nat_cmp}
 use Rattle.agg_types.specs.Key.{is_short}
@@ -39,6 +39,10 @@ filters_of table filters = count_by (λ w. w.filter.table == table) filters
 -- the verdict on a key: `out` where none is kept
 abbrev pub verdict_at : List (List ℕ × Verdict) → List ℕ → Verdict
 verdict_at kept key = unwrap_or (lookup (is_at (slice_cmp nat_cmp key)) kept) out
+
+-- no filter has a verdict on a key but `out`
+abbrev pub HaveNone : List ℕ → List Watched → Type 0
+HaveNone key filters = AllByRecursion (λ w. verdict_at w.kept key ≡ out) filters
 
 -- a filter that holds no key, and never will by the clock alone
 abbrev pub unheld : Filter → Watched

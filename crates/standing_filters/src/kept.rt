@@ -1,7 +1,7 @@
 //! The verdicts on the keys of one filter, each found by a hint or by its key's hash.
 
 ghost use Rattle.std.specs.Prelude.{ℕ, List, ◌≡◌, ◌≤◌, ◌<◌, ◌-◌, [], length, slice_set};
-ghost use Rattle.std.specs.Prelude.{IfOk, IfSome, None, OnErr, OnOk, Some, IsOk};
+ghost use Rattle.std.specs.Prelude.{IfOk, IfSome, None, OnErr, OnOk, Some, IsOk, false};
 ghost use Rattle.std.specs.Cmp.Lexicographic.{slice_cmp};
 ghost use Rattle.std.specs.List.Sorted.{IsStrictlySortedBy};
 ghost use Rattle.std.specs.Map.{keys_of};
@@ -9,6 +9,7 @@ ghost use Rattle.std.specs.Option.{option_copied, option_map};
 ghost use Rattle.std.specs.Ordering.{nat_cmp};
 ghost use Rattle.place_index.specs.Places.{item_at, key_at, value_at, in_order, revalued};
 ghost use Rattle.place_index.specs.Places.{AreDistinct};
+ghost use Rattle.place_index.specs.Hash.{hash_of_bytes};
 ghost use Rattle.standing_filters.specs.Placed.{AreAlikeBut, change_in, earlier_of};
 ghost use Rattle.standing_filters.specs.Plans.{Becomes, IsFirstOf, changes_of, kept_at};
 ghost use Rattle.standing_filters.specs.Verdicts.{out};
@@ -170,6 +171,16 @@ impl KeptVerdicts {
         let at = self.verdicts.find_near(hint, key)?;
         let verdict = self.verdicts.value(at)?;
         Some((at, *verdict))
+    }
+
+    /// Whether there may be a verdict on a key of a hash: it is sure that there is none where this
+    /// is false.
+    #[inline(always)]
+    pub(crate) fn may_have(&self, hash: u32) -> bool
+        ensures { result ≡ false → (key : List ℕ) → hash_of_bytes key ≡ hash
+            → kept_at (in_order self.now.places) key ≡ None }
+    {
+        self.verdicts.may_have(hash)
     }
 
     /// Puts a verdict in on a key that has none, and answers its place. Takes no memory.

@@ -2,6 +2,7 @@
 
 ghost use Rattle.std.specs.Prelude.{◌≡◌, ◌≤◌, ℕ, List, [], length, slice_set, Some, None, IfOk};
 ghost use Rattle.std.specs.Prelude.{◌<◌, ◌-◌, IfSome, IfNone, IsOk, OnErr, OnOk, true, unwrap_or};
+ghost use Rattle.std.specs.Prelude.{false};
 ghost use Rattle.std.specs.Option.{option_copied, option_map};
 ghost use Rattle.place_index.specs.Places.{item_at, key_at, value_at, laid, revalued};
 ghost use Rattle.place_index.specs.Places.{AreDistinct, IsAbsent};
@@ -102,10 +103,19 @@ impl MarkedVerdicts {
         ensures some { IfSome result (λ at. key_at self.now.places at ≡ Some key.now) }
         ensures none { IfNone result (IsAbsent self.now.places key.now) }
     {
-        if self.verdicts.count() <= FEW && !self.marks.has(key.hash_of()) {
+        if !self.may_have(key.hash_of()) {
             return None;
         }
         self.verdicts.find(key)
+    }
+
+    /// Whether a key of a hash may have a place: it is sure that none has where this is false.
+    #[inline(always)]
+    pub(crate) fn may_have(&self, hash: u32) -> bool
+        ensures { result ≡ false → (key : List ℕ) → hash_of_bytes key ≡ hash
+            → IsAbsent self.now.places key }
+    {
+        self.verdicts.count() > FEW || self.marks.has(hash)
     }
 
     /// Makes room for so many further verdicts. After `NoMemory` there is room for as many as
@@ -154,28 +164,15 @@ impl MarkedVerdicts {
         ensures room { self.new.room ≡ self.old.room }
         ensures distinct { AreDistinct self.new.places }
     {
-        let item = self.take(at);
-        if self.is_stale() {
+        self.gone = self.gone.saturating_add(1);
+        let item = self.verdicts.remove(at);
+        // Many marks are needless, and few places have to be looked at to make them anew.
+        if self.verdicts.places() <= SHORT_WALK && self.gone > self.verdicts.places() {
             self.renew();
         }
         // Its clause says that no key lies in two places.
         let _count = self.verdicts.count();
         item
-    }
-
-    // The same, where the marks stay as they are.
-    fn take(&mut self, at: usize) -> Option<(Key, Verdict)>
-        ensures value { result ≡ item_at self.old.places at }
-        ensures after { self.new.places ≡ slice_set self.old.places at None }
-        ensures room { self.new.room ≡ self.old.room }
-    {
-        self.gone = self.gone.saturating_add(1);
-        self.verdicts.remove(at)
-    }
-
-    // Whether many marks are needless, and few places have to be looked at to make them anew.
-    fn is_stale(&self) -> bool {
-        self.verdicts.places() <= SHORT_WALK && self.gone > self.verdicts.places()
     }
 
     // Makes the marks anew.

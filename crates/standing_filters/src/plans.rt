@@ -67,7 +67,8 @@ impl ChangePlans {
             return;
         };
         if self.plans.plan(place, at).is_err() {
-            self.lose();
+            self.plans = PlacePlans::new(self.alloc);
+            self.is_lost = true;
         }
     }
 
@@ -98,13 +99,5 @@ impl ChangePlans {
         ensures { result ≤ t }
     {
         self.plans.few_by(t, most)
-    }
-
-    // They aren't known from now on. Takes no memory.
-    fn lose(&mut self)
-        ensures { self.new.lost ≡ true }
-    {
-        self.plans = PlacePlans::new(self.alloc);
-        self.is_lost = true;
     }
 }

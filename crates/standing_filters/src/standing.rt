@@ -3,7 +3,7 @@
 ghost use Rattle.std.specs.Prelude.{◌≡◌, ◌≤◌, ◌<◌, ◌+◌, ◌*◌, ◌==◌, ◌++◌, ◌∷◌, [], ℕ, List};
 ghost use Rattle.std.specs.Prelude.{length, map, remove, true, IfOk, IsFalse, IsOk};
 ghost use Rattle.std.specs.Prelude.{IsTrue, OnOk, OnErr, Some};
-ghost use Rattle.std.specs.Prelude.{◌≢◌, ◌⊎◌, slice_get, unwrap_or};
+ghost use Rattle.std.specs.Prelude.{◌≢◌, ◌⊎◌, false, slice_get, unwrap_or};
 ghost use Rattle.std.specs.List.{All, AllByRecursion, list_any};
 ghost use Rattle.std.specs.List.Sorted.{IsStrictlySortedBy};
 ghost use Rattle.std.specs.BTreeMap.{is_at};
@@ -15,7 +15,8 @@ ghost use Rattle.standing_filters.specs.Flips.{TellsIfKnown, holding};
 ghost use Rattle.standing_filters.specs.Plans.{IsPlanOf};
 ghost use Rattle.standing_filters.specs.Turns.{AreReadFor, AreTurned, IsQuiet};
 ghost use Rattle.standing_filters.specs.Watched.{AreForgotten, AreTouched, IsFirstChange, IsReady};
-ghost use Rattle.standing_filters.specs.Watched.{filters_of, is_among, keys_held, unheld};
+ghost use Rattle.standing_filters.specs.Watched.{HaveNone, filters_of, is_among, keys_held};
+ghost use Rattle.standing_filters.specs.Watched.{unheld};
 ghost use Rattle.standing_filters.specs.Watched.{verdict_at, verdicts_of};
 
 use crate::adding::Adding;
@@ -28,6 +29,7 @@ use crate::turning::turn_each;
 use crate::watch::Watch;
 use agg_types::{Config, Filter, Key, NoMemory};
 use crossing::{Meter, Values};
+use place_index::IndexKey;
 use std::alloc::Global;
 use std::marker::Model;
 
@@ -96,7 +98,8 @@ impl Standing {
         };
         let filters = config.filters.as_slice();
         for filter in filters {
-            standing.push(filter)?;
+            let adding = standing.begin(filter, 0)?;
+            standing.add(adding)?;
         }
         Ok(standing)
     }
@@ -125,6 +128,21 @@ impl Standing {
         ensures no { IsFalse result → ¬ (IsReady table key.now self.now) }
     {
         self.is_sure(table) && (key.is_short() || self.has_copies(key))
+    }
+
+    /// Whether a filter may have a verdict on a key: it is sure that none has where this is false.
+    /// Reads no value, and searches for no key.
+    #[inline(always)]
+    pub fn may_hold(&self, key: &Key) -> bool
+        ensures { result ≡ false → HaveNone key.now self.now.filters }
+    {
+        let hash = key.hash_of();
+        for watch in self.watches.as_slice() {
+            if watch.may_have(hash) {
+                return true;
+            }
+        }
+        false
     }
 
     /// Judges a key by each filter of its table, by its values at a moment, in ms. After `NoMemory`
@@ -440,17 +458,6 @@ impl Standing {
             meter,
             flips,
         );
-    }
-
-    // Adds a filter that holds no key.
-    fn push(&mut self, filter: &Filter) -> Result<(), NoMemory>
-        requires few { length filter.now.conds ≤ MOST_CONDS }
-        ensures ok { OnOk result (self.new.filters
-            ≡ self.old.filters ++ unheld filter.now ∷ []) }
-        ensures err { OnErr result (self.new.filters ≡ self.old.filters) }
-    {
-        let adding = self.begin(filter, 0)?;
-        self.add(adding)
     }
 }
 

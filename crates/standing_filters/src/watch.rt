@@ -14,6 +14,7 @@ ghost use Rattle.std.specs.Ordering.{nat_cmp};
 ghost use Rattle.agg_types.specs.Key.{is_short};
 ghost use Rattle.agg_types.specs.declared.limits.TheConstants.{MOST_CONDS};
 ghost use Rattle.crossing.specs.First.{IsFlatSoon};
+ghost use Rattle.place_index.specs.Hash.{hash_of_bytes};
 ghost use Rattle.place_index.specs.Places.{item_at, key_at};
 ghost use Rattle.standing_filters.specs.Flips.{TellsAt};
 ghost use Rattle.standing_filters.specs.Placed.{IsSetAt, change_in, verdict_in};
@@ -124,6 +125,16 @@ impl Watch {
         ensures ordered { IsStrictlySortedBy (slice_cmp nat_cmp) (map (λ e. e.1) result) }
     {
         self.kept.planned()
+    }
+
+    /// Whether a verdict may be kept on a key of a hash: it is sure that none is where this is
+    /// false.
+    #[inline(always)]
+    pub(crate) fn may_have(&self, hash: u32) -> bool
+        ensures { result ≡ false → (key : List ℕ) → hash_of_bytes key ≡ hash
+            → verdict_at (kept_by self.now) key ≡ out }
+    {
+        self.kept.may_have(hash)
     }
 
     /// Judges a key by its values at a moment.
