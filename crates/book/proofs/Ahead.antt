@@ -1,7 +1,6 @@
 -- A filter judges the keys of a walk one by one.
 use Rattle.std.proofs.Common.{◌≡◌, ℕ, ◌≤◌, Bool, true, false, ◌||◌, List, [], ◌∷◌, Option, None}
-use Rattle.std.proofs.Common.{Some}
-use Rattle.std.proofs.Common.{is_some, length, refl, sym, ap, ◌∙◌, subst}
+use Rattle.std.proofs.Common.{Some, is_some, length, refl, sym, ap, ◌∙◌, subst}
 use Rattle.std.specs.Prelude.{map}
 use Rattle.std.specs.BTreeMap.{is_at}
 use Rattle.std.specs.Cmp.{eq_by_cmp_equiv}
@@ -12,7 +11,6 @@ use Rattle.std.specs.Option.{option_map}
 use Rattle.std.specs.Ordering.{eq_by_cmp, nat_cmp}
 use Rattle.std.specs.Set.{is_member}
 use Rattle.std.proofs.lemmas.List.{length-map}
-use Rattle.std.proofs.lemmas.Map.Entries.{lookup_from_place}
 use Rattle.std.proofs.lemmas.Map.Keys.{IsDistinct-head, IsDistinct-tail}
 use Rattle.std.proofs.lemmas.Map.Made.{is_some-lookup, length-le_from_is_member}
 use Rattle.agg_types.specs.declared.config.Filter.{Filter}
@@ -31,29 +29,19 @@ use Rattle.standing_filters.specs.Verdicts.{out}
 use Rattle.standing_filters.specs.Watched.{IsTouched, Watched, is_among, unheld, verdict_at}
 use Rattle.standing_filters.proofs.Walking.{key_itself}
 use Rattle.book.specs.Ahead.{AreAhead}
-use Rattle.book.specs.Flatness.{living_falls}
-use Rattle.book.specs.Foreseen.{living_within}
+use Rattle.book_machine.specs.Flatness.{living_falls}
+use Rattle.book_machine.specs.Foreseen.{living_within}
 use Rattle.book.specs.Verdicts.{AreAll, AreJudged, IsJudged, living_in, sums_in}
-use Rattle.book.specs.Shown.{of_peer}
-use Rattle.book.specs.Store.{IsEachKeyOf}
-use Rattle.book.proofs.Meeting.{any_of, each_place, live_rows}
+use Rattle.book_rows.specs.Shown.{of_peer}
+use Rattle.book_rows.specs.Store.{IsEachKeyOf}
+use Rattle.book_rows.proofs.KeysMeeting.{live_rows}
+use Rattle.book_machine.proofs.Walked.{walk_rows}
 
 abbrev PeerRows : Type 0
 PeerRows = List (ℕ × Row)
 
 abbrev same : List ℕ → List ℕ → Bool
 same = eq_by_cmp (slice_cmp nat_cmp)
-
--- the rows of each key of a walk
-pub walk_rows : (rows : Rows) (table : ℕ) (walk : Keys) → IsEachKeyOf rows table walk
-    → AllByRecursion (λ e. map (of_peer table e.0) e.1 ≡ key_rows rows table e.0) walk
-walk_rows rows table walk each =
-    each_place (λ e. map (of_peer table e.0) e.1 ≡ key_rows rows table e.0) walk
-    (λ i e is.
-    let found : maps.lookup (is_at (slice_cmp nat_cmp e.0)) walk ≡ Some e.1 =
-    lookup_from_place (eq_by_cmp_equiv nat_list_cmp_total) walk i e.0 e.1 each.once is in
-    sym (any_of (key_rows rows table e.0) (map (of_peer table e.0) e.1)
-    (ap (option_map (map (of_peer table e.0))) (sym found) ∙ each.exact e.0)))
 
 none_of : {X : Type 0} (xs : List X) → None ≡ if_any xs → xs ≡ []
 none_of [] is = refl

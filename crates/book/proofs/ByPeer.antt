@@ -19,10 +19,10 @@ use Rattle.standing_filters.specs.declared.judging.Verdict.{Verdict}
 use Rattle.book.specs.ByPeer.{kept_row, kept_rows, peer_row}
 use Rattle.book.specs.Foretold.{IsForetold}
 use Rattle.book.specs.OneKey.{KeyOf, key_of, living_of_key, sums_of}
-use Rattle.book.specs.Shown.{of_peer}
-use Rattle.book.specs.Store.{AreRowsOf}
+use Rattle.book_rows.specs.Shown.{of_peer}
+use Rattle.book_rows.specs.Store.{AreRowsOf}
 use Rattle.book.specs.Verdicts.{living_in, sums_in}
-use Rattle.book.proofs.Foresight.{bool_same}
+use Rattle.book_machine.proofs.Foresight.{bool_same}
 use Rattle.book.proofs.Judging.{holds_in}
 
 -- ---- the rows of a key

@@ -9,7 +9,8 @@ use Rattle.agg_types.specs.declared.config.Filter.{Filter}
 use Rattle.fleet_model.specs.State.{State}
 use Rattle.standing_filters.proofs.Removed.{all-remove, map-remove}
 use Rattle.standing_filters.specs.Watched.{Watched}
-use Rattle.book.specs.Verdicts.{AreAll, HasFewer, IsAddedPlace, IsJudged}
+use Rattle.book.specs.Verdicts.{AreAll, HasFewer, IsJudged}
+use Rattle.book_machine.specs.Leaving.{IsAddedPlace}
 use Rattle.book.proofs.Judging.{all_judged, still_judged}
 
 -- ---- the verdicts of all others

@@ -22,7 +22,7 @@ use Rattle.standing_filters.proofs.Walking.{due_moment}
 use Rattle.standing_filters.specs.Turns.{AreDue, AreReadFor, IsQuiet, is_due}
 use Rattle.standing_filters.specs.Verdicts.{holds_at}
 use Rattle.standing_filters.specs.Watched.{Watched, filters_of, verdict_at}
-use Rattle.book.specs.Foreseen.{flat_within}
+use Rattle.book_machine.specs.Foreseen.{flat_within}
 use Rattle.book.specs.Verdicts.{AreAll, AreJudged, IsJudged}
 use Rattle.book.specs.Verdicts.{living_in, sums_in}
 use Rattle.book.specs.Reads.{AreDueBy, IsDueBy, IsFewFor, IsForDue, IsQuietUntil, filters_at}

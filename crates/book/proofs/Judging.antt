@@ -38,11 +38,11 @@ use Rattle.standing_filters.specs.Watched.{verdicts_of, unheld, verdict_at}
 use Rattle.standing_filters.specs.Watched.{no_filter as nothing}
 use Rattle.crossing.specs.First.{IsFirstFrom}
 use Rattle.book.specs.Flips.{held_in}
-use Rattle.book.specs.Foreseen.{living_within, worth_within}
-use Rattle.book.specs.Gone.{without_keys}
+use Rattle.book_machine.specs.Foreseen.{living_within, worth_within}
+use Rattle.book_machine.specs.Gone.{without_keys}
 use Rattle.book.specs.Verdicts.{AreAll, AreJudged, ChangesKey, ChangesTable}
 use Rattle.book.specs.Verdicts.{GoesOn, IsJudged, Stays, living_in, sums_in}
-use Rattle.book.proofs.Foresight.{bool_same, holds_within}
+use Rattle.book_machine.proofs.Foresight.{bool_same, holds_within}
 
 -- what is read of a key is what a filter says of it
 pub holds_in : (state : State) (filtering : Filter) (key : List ℕ) (t : ℕ) → IsSound state

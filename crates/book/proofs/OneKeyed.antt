@@ -11,7 +11,7 @@ use Rattle.peer_rows.specs.declared.row.Row.{Row}
 use Rattle.standing_filters.specs.Verdicts.{Foretells, meets_at}
 use Rattle.standing_filters.specs.Watched.{AreTouched, IsTouched, Watched, verdict_at}
 use Rattle.book.specs.OneKey.{KeyOf, flat_of, key_of, living_of_key, sums_of}
-use Rattle.book.specs.Store.{AreFound, AreRowsOf}
+use Rattle.book_rows.specs.Store.{AreFound, AreRowsOf}
 use Rattle.book.specs.Verdicts.{living_in, sums_in}
 use Rattle.book.proofs.FewReads.{flat_soon}
 

@@ -18,11 +18,11 @@ use Rattle.fleet_model.specs.State.{State}
 use Rattle.standing_filters.proofs.Removed.{all-remove, map-remove}
 use Rattle.standing_filters.specs.Watched.{AllWatched, Watched}
 use Rattle.book.specs.Reads.{pairs_from}
-use Rattle.book.specs.Uses.{has_filter}
+use Rattle.book_machine.specs.Uses.{has_filter}
 use Rattle.book.specs.Verdicts.{AreAll, AreHeldFor, Follows, HasMore, HasRoomFor}
 use Rattle.book.specs.Verdicts.{IsJudged, IsOneMore, with_filter}
 use Rattle.book.proofs.Judging.{all_judged, still_judged}
-use Rattle.book.proofs.Lists.{all-append}
+use Rattle.book_rows.proofs.Lists.{all-append}
 
 -- ---- a filter is to be added
 filters_are : (state : State) (filtering : Filter) (b : Bool)

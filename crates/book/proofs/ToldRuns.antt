@@ -10,7 +10,8 @@ use Rattle.fleet_model.specs.Sound.{IsSound}
 use Rattle.fleet_model.specs.State.{State}
 use Rattle.standing_filters.specs.Flips.{Flipped}
 use Rattle.book.specs.Flips.{TellsAllIfKnown, TellsStepIfKnown, part_of}
-use Rattle.book.specs.Runs.{IsPartApplied, IsUpdateOf, counted_to, left_at, with_update}
+use Rattle.book.specs.Runs.{IsPartApplied, left_at}
+use Rattle.book_machine.specs.Turns.{IsUpdateOf, counted_to, with_update}
 use Rattle.book.proofs.ToldAll.{if_known_then, tells_all_none, tells_one}
 use Rattle.book.proofs.Updates.{length-numbered, part_more, part_none, part_on, update_after}
 

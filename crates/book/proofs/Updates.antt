@@ -30,8 +30,10 @@ use Rattle.fleet_model.specs.State.{State}
 use Rattle.standing_filters.specs.Watched.{AllWatched}
 use Rattle.book.proofs.Following.{follows}
 use Rattle.book.specs.Verdicts.{ChangesTable, Follows, IsBook}
-use Rattle.book.specs.Runs.{IsLentInto, IsPartApplied, IsPutOf, IsTurn, IsUpdateOf, counted_to}
-use Rattle.book.specs.Runs.{left_at, with_update}
+use Rattle.book.specs.Runs.{IsPartApplied}
+use Rattle.book_machine.specs.Turns.{IsLentInto, IsPutOf, IsTurn, IsUpdateOf, counted_to}
+use Rattle.book.specs.Runs.{left_at}
+use Rattle.book_machine.specs.Turns.{with_update}
 
 abbrev Numbers : Type 0
 Numbers = List (ℕ × ℕ)

@@ -10,7 +10,7 @@ use Rattle.peer_rows.specs.Places.{Keys}
 use Rattle.standing_filters.specs.Laws.{AreVerdictsBut}
 use Rattle.standing_filters.specs.Watched.{Watched}
 use Rattle.book.specs.Verdicts.{living_in, sums_in}
-use Rattle.book.specs.Shown.{of_peer}
+use Rattle.book_rows.specs.Shown.{of_peer}
 
 -- keys of a table that lie ahead, each once with its rows; every other has its verdict
 pub record AreAhead (state : State) (table : ℕ) (walk : Keys) (w : Watched) : Type 0 where

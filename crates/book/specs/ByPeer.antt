@@ -10,7 +10,7 @@ use Rattle.fleet_model.specs.Values.{cols_of}
 use Rattle.fleet_model.specs.declared.arrival.Arrival.{Arrival}
 use Rattle.fleet_model.specs.declared.summed.Summed.{Summed}
 use Rattle.peer_rows.specs.declared.row.Row.{Row}
-use Rattle.book.specs.Shown.{of_peer}
+use Rattle.book_rows.specs.Shown.{of_peer}
 use Rattle.book.specs.declared.by_peer.PeerRow.{PeerRow}
 
 -- what a row says at t: what is left of its life, and its own value of each column

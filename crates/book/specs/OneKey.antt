@@ -4,7 +4,7 @@ use Rattle.agg_types.specs.declared.column.Col.{Col}
 use Rattle.fleet_model.specs.Keys.{key_rows}
 use Rattle.fleet_model.specs.State.{State}
 use Rattle.fleet_model.specs.Values.{cols_of}
-use Rattle.book.specs.Foreseen.{flat_within, living_within, worth_within}
+use Rattle.book_machine.specs.Foreseen.{flat_within, living_within, worth_within}
 
 -- a key of a state's table
 pub record KeyOf : Type 0 where

@@ -1,7 +1,5 @@
 -- Kept verdicts of a book's standing filters, and what an event leaves of what they rest on.
-use Rattle.std.specs.Prelude.{◌≡◌, ◌≢◌, ◌⊎◌, ℕ, ◌≤◌, ◌++◌, ◌∷◌, ◌<◌, List, []}
-use Rattle.std.specs.Prelude.{Option, IfSome, length, map, max, remove, true}
-use Rattle.std.specs.Option.{option_map_or}
+use Rattle.std.specs.Prelude.{◌≡◌, ◌≢◌, ◌⊎◌, ℕ, ◌≤◌, ◌++◌, ◌∷◌, List, [], map, max, true}
 use Rattle.std.specs.List.{AllByRecursion}
 use Rattle.agg_types.specs.declared.column.Col.{Col}
 use Rattle.agg_types.specs.declared.config.Config.{Config}
@@ -16,8 +14,8 @@ use Rattle.fleet_model.specs.State.{State}
 use Rattle.fleet_model.specs.Values.{cols_of}
 use Rattle.standing_filters.specs.Laws.{AreVerdicts}
 use Rattle.standing_filters.specs.Watched.{AllWatched, IsReady, Watched}
-use Rattle.book.specs.Foreseen.{living_within, worth_within}
-use Rattle.book.specs.Uses.{has_filter}
+use Rattle.book_machine.specs.Foreseen.{living_within, worth_within}
+use Rattle.book_machine.specs.Uses.{has_filter}
 
 -- what the keys of a state sum up to, and how many of their rows live, as the clock goes on
 abbrev pub sums_in : State → ℕ → List ℕ → Col → ℕ → ℕ
@@ -131,23 +129,6 @@ pub record HasFewer (name : List ℕ) (state later : State) : Type 0 where
   pub moment : later.moment ≡ state.moment
   pub rows : later.rows ≡ state.rows
   pub filters : later.config.filters ≡ dropped state.configured name state.config.filters
-
--- the place of the added filter of a name
-pub record IsAddedPlace (state : State) (name : List ℕ) (place : Option ℕ) : Type 0 where
-  pub within : IfSome place (λ p. p < length state.config.filters)
-  pub gone : dropped state.configured name state.config.filters
-      ≡ option_map_or (λ p. remove state.config.filters p) place state.config.filters
-
--- the place of the filter that an event drops
-abbrev pub IsLeaving : State → What → Option ℕ → Type 0
-IsLeaving state Sit place = Unit {0}
-IsLeaving state (Open peer) place = Unit {0}
-IsLeaving state (Put peer table key life cells) place = Unit {0}
-IsLeaving state (Clear table sel) place = Unit {0}
-IsLeaving state (AddFilter filtering) place = Unit {0}
-IsLeaving state (DropFilter name) place = IsAddedPlace state name place
-IsLeaving state (Moment moment) place = Unit {0}
-IsLeaving state Leave place = Unit {0}
 
 -- what an event leaves
 abbrev pub Follows : What → State → State → Type 0

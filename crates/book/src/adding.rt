@@ -9,11 +9,11 @@ ghost use Rattle.standing_filters.specs.Verdicts.{out};
 ghost use Rattle.standing_filters.specs.Watched.{IsTouched, verdict_at};
 ghost use Rattle.book.specs.Ahead.{AreAhead};
 ghost use Rattle.book.specs.Verdicts.{IsJudged, living_in, sums_in};
-ghost use Rattle.book.specs.Store.{AreRowsOf};
+ghost use Rattle.book_rows.specs.Store.{AreRowsOf};
 
-use crate::machine::Machine;
 use crate::one_key::OneKey;
 use agg_types::{Filter, Key, NoMemory};
+use book_machine::Machine;
 use crossing::Meter;
 use peer_rows::{EachKey, OfKey};
 use standing_filters::{Adding, Standing};

@@ -6,8 +6,8 @@ ghost use Rattle.agg_types.specs.declared.event.What.TheVariants.{Leave};
 ghost use Rattle.book_frame.specs.Due.{IsDue};
 ghost use Rattle.fleet_model.specs.Machine.{after, counts_now, event_of, number_of};
 ghost use Rattle.fleet_model.specs.Sound.{IsSound};
-ghost use Rattle.book.specs.Dropped.{is_dropped};
-ghost use Rattle.book.specs.Due.{FitsPlace};
+ghost use Rattle.book_machine.specs.Dropped.{is_dropped};
+ghost use Rattle.book_machine.specs.Due.{FitsPlace};
 ghost use Rattle.book.specs.Flips.{TellsAllIfKnown};
 ghost use Rattle.book.specs.Reads.{IsFewFor, IsQuietTo};
 

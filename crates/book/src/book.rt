@@ -19,24 +19,21 @@ ghost use Rattle.fleet_model.specs.Rows.{held_rows};
 ghost use Rattle.fleet_model.specs.Sound.{IsSound};
 ghost use Rattle.fleet_model.specs.State.{IsStateOf};
 ghost use Rattle.book.specs.ByPeer.{peer_rows};
-ghost use Rattle.book.specs.Dropped.{is_dropped};
-ghost use Rattle.book.specs.First.{first_behind};
+ghost use Rattle.book_machine.specs.Dropped.{is_dropped};
+ghost use Rattle.book_rows.specs.First.{first_behind};
 ghost use Rattle.book.specs.Flips.{TellsAllIfKnown};
 ghost use Rattle.book.specs.Reads.{IsFewFor, IsQuietTo};
 ghost use Rattle.book_frame.specs.Lent.{listed_where, shown_row};
 
 use crate::by_peer::PeerRows;
-use crate::drops::Drops;
-use crate::first::Sought;
-use crate::listing::BookRows;
-use crate::machine::Machine;
-use crate::queries;
-use crate::ranking::Ranked;
+use crate::foretold;
 use crate::verdicts::Verdicts;
 use agg_types::{Cond, Config, Event, Filter, Key, LentWhat, NoMemory};
 use book_frame::seats;
 use book_frame::seats::has_free_seat;
 use book_frame::standing::added_at;
+use book_machine::{Machine, Ranked};
+use book_rows::{BookRows, Drops, Sought, queries};
 use fleet_model::Summed;
 use peer_rows::Spot;
 use standing_filters::{Flips, Keys, Verdict};
@@ -121,7 +118,7 @@ impl Book {
         fleet_model::laws::states_are_sound();
         let machine = Machine::new(alloc, config, moment)?;
         let verdicts = Verdicts::new(&machine)?;
-        let drops = Drops::new(alloc, machine.rows.size)?;
+        let drops = Drops::new(alloc, &machine.rows)?;
         Ok(Book {
             machine,
             verdicts,
@@ -253,7 +250,7 @@ impl Book {
     pub fn peer_rows(&self, table: usize, key: &Key) -> PeerRows<'_>
         ensures { result ≡ peer_rows self.now table key.now }
     {
-        self.machine.peer_rows(table, key)
+        PeerRows::of(&self.machine, table, key)
     }
 
     /// Whether a filter holds a key now, and the first moment above the book's, in ms, at which
@@ -264,7 +261,7 @@ impl Book {
         ensures holds { result.holds ≡ holds self.now filter.now key.now self.now.moment }
         ensures next { IsKeyChange self.now filter.now key.now result.next }
     {
-        self.machine.verdict(filter, key)
+        foretold::verdict(&self.machine, filter, key)
     }
 
     /// The keys of a table with a row, in order.
@@ -327,8 +324,8 @@ impl Book {
     }
 
     /// The first keys of that listing, each with its summed row: so many at most, of those behind a
-    /// key. They are kept while the rows are walked: takes memory for at most twice as many, however
-    /// many meet the conditions.
+    /// key. They are kept while the rows are walked: takes memory for at most twice as many,
+    /// however many meet the conditions.
     pub fn first_rows(
         &self,
         alloc: Global,
@@ -352,9 +349,9 @@ impl Book {
         self.verdicts.standing.keys(filter)
     }
 
-    /// The ranked list at a position of the configuration, found by bounds on the values of keys, or
-    /// in one walk of its table's rows where bounds lead to many keys. Takes memory for as many keys
-    /// as it may have.
+    /// The ranked list at a position of the configuration, found by bounds on the values of keys,
+    /// or in one walk of its table's rows where bounds lead to many keys. Takes memory for as many
+    /// keys as it may have.
     pub fn top(&self, alloc: Global, rank: usize) -> Result<Ranked<'_>, NoMemory>
         requires { rank < length self.now.config.ranks }
         ensures { IfOk result (λ entries. entries ≡ ranked self.now (rank_of self.now rank)) }
@@ -382,9 +379,10 @@ impl Book {
         self.verdicts.standing.next_change(filter)
     }
 
-    /// The moment, in ms, of the next portion where the clock is to go on to `t`: behind the book's,
-    /// and such that at most so many keys of each table are looked at for rows that end by then, and
-    /// of each filter for verdicts that change, or only those of a single moment. Takes no memory.
+    /// The moment, in ms, of the next portion where the clock is to go on to `t`: behind the
+    /// book's, and such that at most so many keys of each table are looked at for rows that end by
+    /// then, and of each filter for verdicts that change, or only those of a single moment. Takes
+    /// no memory.
     ///
     /// No clause counts the keys.
     pub fn few_by(&self, t: u64, most: usize) -> u64

@@ -7,13 +7,13 @@ ghost use Rattle.agg_types.specs.Col.{all_cols};
 ghost use Rattle.fleet_model.specs.Keys.{key_rows, row_worth};
 ghost use Rattle.fleet_model.specs.Values.{cols_of};
 ghost use Rattle.book.specs.ByPeer.{kept_row, kept_rows, peer_row};
-ghost use Rattle.book.specs.Shown.{as_arrival};
+ghost use Rattle.book_rows.specs.Shown.{as_arrival};
 
-use crate::machine::Machine;
-use crate::queries::left_of;
-use crate::values::{found_in, row_worth};
 use agg_types::{COLUMNS, Col, Key};
 use book_frame::standing::cols_of;
+use book_machine::Machine;
+use book_rows::queries::left_of;
+use book_rows::values::{found_in, row_worth};
 use fleet_model::Summed;
 use peer_rows::{OfKey, Row};
 use std::marker::Model;
@@ -67,6 +67,15 @@ impl<'a> PeerRows<'a> {
         PeerRows { rows, cols, t }
     }
 
+    /// The rows of a key of a machine, as they stand now.
+    pub(crate) fn of(machine: &'a Machine, table: usize, key: &Key) -> PeerRows<'a>
+        ensures { result ≡ map (peer_row (cols_of machine.now.config.tables table)
+            machine.now.moment) (key_rows machine.now.rows table key.now) }
+    {
+        let cols = cols_of(machine.config.tables.as_slice(), table);
+        PeerRows::new(machine.rows.of_key(table, key), cols, machine.moment)
+    }
+
     /// How many rows are left.
     #[tactic(auto, using(crate::proofs::ByPeer::count_told))]
     pub fn len(&self) -> usize
@@ -97,17 +106,6 @@ impl<'a> Iterator for PeerRows<'a> {
         };
         let (peer, row) = rows.next()?;
         Some(told(self.cols, self.t, peer, row))
-    }
-}
-
-impl Machine {
-    /// The rows of a key, as they stand now.
-    pub(crate) fn peer_rows(&self, table: usize, key: &Key) -> PeerRows<'_>
-        ensures { result ≡ map (peer_row (cols_of self.now.config.tables table) self.now.moment)
-            (key_rows self.now.rows table key.now) }
-    {
-        let cols = cols_of(self.config.tables.as_slice(), table);
-        PeerRows::new(self.rows.of_key(table, key), cols, self.moment)
     }
 }
 

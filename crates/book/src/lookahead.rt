@@ -2,9 +2,9 @@
 //!
 //! Nothing is promised of it: each spot is a hint, with which every call does and answers the same.
 
-use crate::machine::Machine;
 use crate::runs::hint_at;
 use agg_types::{Key, LentWhat, Whats};
+use book_machine::Machine;
 use peer_rows::{Spot, Trace};
 
 // So many updates are looked at together: enough that their waits for memory overlap, few enough

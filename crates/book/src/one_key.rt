@@ -2,15 +2,12 @@
 
 ghost use Rattle.std.specs.Prelude.{◌≡◌, ◌<◌, ◌^◌, length, Some};
 ghost use Rattle.book.specs.OneKey.{key_of};
-ghost use Rattle.book.specs.Store.{AreRowsOf};
+ghost use Rattle.book_rows.specs.Store.{AreRowsOf};
 
-use crate::foreseen::{found_fewer, found_flat, found_live};
-use crate::likely::found_likely;
-use crate::machine::Machine;
-use crate::nothing::found_drop;
-use crate::values::{found_below, found_most, found_worth};
 use agg_types::{Col, Key};
 use book_frame::standing::{cols_of, longest_period};
+use book_machine::{Machine, found_drop, found_fewer, found_flat, found_likely, found_live};
+use book_rows::values::{found_below, found_most, found_worth};
 use crossing::Values;
 use peer_rows::{OfKey, Spot};
 use std::marker::Model;
@@ -34,7 +31,7 @@ impl<'a> Model for OneKey<'a> {
     ghost use Rattle.std.specs.Prelude.{◌≡◌, ◌<◌, ◌^◌, length, IfSome};
     ghost use Rattle.fleet_model.specs.Values.{cols_of};
     ghost use Rattle.book.specs.OneKey.{KeyOf};
-    ghost use Rattle.book.specs.Store.{AreRowsOf};
+    ghost use Rattle.book_rows.specs.Store.{AreRowsOf};
 
     ghost Value = { KeyOf };
 
@@ -89,8 +86,9 @@ impl<'a> OneKey<'a> {
 impl<'a> Values for OneKey<'a> {
     ghost use Rattle.fleet_model.specs.Keys.{key_rows};
     ghost use Rattle.fleet_model.specs.Values.{cols_of};
-    ghost use Rattle.book.specs.Foreseen.{flat_within, living_within, worth_within};
-    ghost use Rattle.book.specs.Flatness.{living_falls, living_stays, worth_falls, worth_stays};
+    ghost use Rattle.book_machine.specs.Foreseen.{flat_within, living_within, worth_within};
+    ghost use Rattle.book_machine.specs.Flatness.{living_falls, living_stays, worth_falls};
+    ghost use Rattle.book_machine.specs.Flatness.{worth_stays};
     ghost use Rattle.book.specs.OneKey.{flat_of, living_of_key, sums_of};
 
     ghost summed = { λ v table key. sums_of v };

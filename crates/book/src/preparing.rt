@@ -10,17 +10,16 @@ ghost use Rattle.agg_types.specs.declared.limits.TheConstants.{MOST_CONDS};
 ghost use Rattle.fleet_model.specs.Answers.{keys_of};
 ghost use Rattle.fleet_model.specs.Sound.{IsSound};
 ghost use Rattle.standing_filters.specs.Watched.{IsReady};
-ghost use Rattle.book.specs.Due.{FitsPlace};
+ghost use Rattle.book_machine.specs.Due.{FitsPlace};
 ghost use Rattle.book.specs.Reads.{IsFewBefore, pairs_from};
-ghost use Rattle.book.specs.Runs.{IsLentInto};
-ghost use Rattle.book.specs.Uses.{IsUseOf, has_filter};
+ghost use Rattle.book_machine.specs.Turns.{IsLentInto};
+ghost use Rattle.book_machine.specs.Uses.{IsUseOf, has_filter};
 ghost use Rattle.book.specs.Verdicts.{AreHeld, AreHeldFor, HasRoomFor, IsOneMore, with_filter};
 
 use crate::adding::judged;
-use crate::machine::Machine;
-use crate::table_use::TableUse;
-use crate::verdicts::{Verdicts, drop_at, has_filter};
+use crate::verdicts::{Verdicts, drop_at};
 use agg_types::{Filter, Key, LentWhat, NoMemory, What};
+use book_machine::{Machine, TableUse, has_filter};
 use crossing::Meter;
 use standing_filters::Standing;
 
@@ -87,11 +86,11 @@ impl Verdicts {
     pub(crate) fn prepare_update(
         &mut self,
         machine: &Machine,
-        table_use: TableUse,
+        table_use: &TableUse,
         what: LentWhat<'_>,
     ) -> Result<(), NoMemory>
-        requires found { IsUseOf machine.now.config table_use }
-        requires lent { IsLentInto table_use.table what }
+        requires found { IsUseOf machine.now.config table_use.now }
+        requires lent { IsLentInto table_use.now.table what }
         ensures filters { self.new.standing.filters ≡ self.old.standing.filters }
         ensures room { OnOk result
             (HasRoomFor (as_what what.entry) machine.now.config self.new.standing) }

@@ -1,42 +1,30 @@
 //! Runs of updates: what those of one peer have in common is looked up once, and their seat is
 //! counted up once, behind the last.
 
-ghost use Rattle.std.specs.Prelude.{◌≡◌, ◌+◌, ◌<◌, ◌≤◌, fold, length, IfOk, IfSome, IsTrue};
-ghost use Rattle.std.specs.Prelude.{OnErr, OnOk, is_some};
+ghost use Rattle.std.specs.Prelude.{◌≡◌, ◌+◌, ◌<◌, ◌≤◌, fold, length};
+ghost use Rattle.std.specs.Prelude.{OnErr, OnOk};
 ghost use Rattle.agg_types.specs.Whats.{as_what};
 ghost use Rattle.agg_types.specs.declared.limits.TheConstants.{NUMBERS_END};
-ghost use Rattle.fleet_model.specs.Machine.{after, number_of, session_of};
+ghost use Rattle.fleet_model.specs.Machine.{after, session_of};
 ghost use Rattle.fleet_model.specs.Sound.{IsSound};
-ghost use Rattle.book.specs.Due.{FitsPlace};
-ghost use Rattle.book.specs.Dropped.{lacks_room};
 ghost use Rattle.book.specs.Flips.{TellsAllIfKnown, TellsStepIfKnown, part_of};
 ghost use Rattle.book.specs.Verdicts.{IsBook};
-ghost use Rattle.book.specs.Runs.{IsLentInto, IsPartApplied, IsPutOf, IsTurn, IsUpdateOf};
-ghost use Rattle.book.specs.Runs.{counted_to, left_at, with_update};
-ghost use Rattle.book.specs.Uses.{IsUseOf};
+ghost use Rattle.book.specs.Runs.{IsPartApplied};
+ghost use Rattle.book_machine.specs.Turns.{IsLentInto, IsTurn, IsUpdateOf};
+ghost use Rattle.book.specs.Runs.{left_at};
+ghost use Rattle.book_machine.specs.Turns.{counted_to, with_update};
+ghost use Rattle.book_machine.specs.Uses.{IsUseOf};
 
-use crate::at::At;
 use crate::book::Book;
-use crate::drops::Drops;
 use crate::lookahead::Lookahead;
-use crate::machine::{Applied, Machine};
-use crate::table_use::TableUse;
 use crate::verdicts::Verdicts;
 use agg_types::{LentWhat, NoMemory, Whats};
 use book_frame::seats;
-use book_frame::seats::{count_to, is_number};
+use book_frame::seats::count_to;
+use book_machine::{Machine, TableUse, Turn};
+use book_rows::Drops;
 use peer_rows::Spot;
 use standing_filters::Flips;
-
-/// Whose updates come one after the other, the table of the first, and the session in force of the
-/// peer.
-#[derive(Clone, Copy)]
-pub(crate) struct Turn {
-    pub(crate) seat: u64,
-    pub(crate) peer: usize,
-    pub(crate) table: usize,
-    pub(crate) session: Option<u64>,
-}
 
 /// How far a run came, and whether an allocation failed at that place.
 #[derive(Clone, Copy)]
@@ -126,102 +114,6 @@ impl Book {
     }
 }
 
-impl Machine {
-    /// The turn that begins with an event, if it is lent as an update and its number is due.
-    fn turn_at(&self, seat: u64, number: u64, what: LentWhat<'_>) -> Option<Turn>
-        ensures seat { IfSome result (λ turn. turn.seat ≡ seat) }
-        ensures turn { IfSome result
-            (λ turn. IsTurn self.now seat number turn.peer turn.session) }
-    {
-        let LentWhat::Put { peer, table, .. } = what else {
-            return None;
-        };
-        if !is_number(seats::number_of(&self.seats, seat), number) {
-            return None;
-        }
-        Some(Turn {
-            seat,
-            peer,
-            table,
-            session: seats::session_of(&self.sessions, peer),
-        })
-    }
-
-    /// The table of an update of a peer, if an event is lent as one, and fits. What stands on the
-    /// table of the last update says sooner whether it does.
-    #[inline(always)]
-    fn table_of(&self, peer: usize, last: TableUse, what: LentWhat<'_>) -> Option<usize>
-        requires { IsUseOf self.now.config last }
-        ensures update { IfSome result
-            (λ _. IsUpdateOf self.now.config peer (as_what what.entry)) }
-        ensures lent { IfSome result (λ table. IsLentInto table what.entry) }
-    {
-        match what {
-            LentWhat::Put {
-                peer: other,
-                table,
-                ..
-            } => {
-                if other == peer && self.config.fits_by(last.table, last.form, what) {
-                    Some(table)
-                } else {
-                    None
-                }
-            }
-            LentWhat::Other(_) => None,
-        }
-    }
-
-    /// The number of a seat's next event from now on.
-    fn count_to(&mut self, seat: u64, number: u64)
-        requires sits { IsTrue (is_some (number_of self.old seat)) }
-        ensures { self.new ≡ counted_to self.old seat number }
-    {
-        count_to(&mut self.seats, seat, number);
-    }
-
-    // The row of an update of a turn, of a table on which this stands, whatever the hint; its seat
-    // isn't counted up. Nothing has changed after NoMemory.
-    #[inline(always)]
-    fn put_lent(
-        &mut self,
-        turn: Turn,
-        table_use: TableUse,
-        what: LentWhat<'_>,
-        hint: Option<Spot>,
-    ) -> Result<Applied, NoMemory>
-        requires session { turn.session ≡ session_of self.old turn.peer }
-        requires found { IsUseOf self.old.config table_use }
-        requires lent { IsLentInto table_use.table what }
-        requires put { IsPutOf turn.peer (as_what what) }
-        requires placed { FitsPlace self.old.config (as_what what) }
-        ensures ok { OnOk result
-            (self.new ≡ with_update self.old turn.seat (as_what what.entry)) }
-        ensures dropped { IfOk result (λ applied. applied.dropped
-            ≡ lacks_room self.old turn.seat (as_what what.entry)) }
-        ensures err { OnErr result (self.new ≡ self.old) }
-    {
-        let LentWhat::Put {
-            peer,
-            table,
-            key,
-            life,
-            cells,
-        } = what
-        else {
-            return Ok(Applied::unseen());
-        };
-        let at = At {
-            table,
-            key,
-            peer,
-            spot: self.spot_for(hint, table_use.is_ranked, table, key),
-            is_ranked: table_use.is_ranked,
-        };
-        self.put_row(turn.session, turn.seat, at, life, cells)
-    }
-}
-
 /// The hint at where the rows of an event's key lie, by its place.
 pub(crate) fn hint_at(hints: &Vec<Option<Spot>>, place: usize) -> Option<Spot> {
     hints.get(place).copied().flatten()
@@ -242,14 +134,14 @@ fn take_one(
     verdicts: &mut Verdicts,
     drops: &mut Drops,
     turn: Turn,
-    table_use: TableUse,
+    table_use: &TableUse,
     what: LentWhat<'_>,
     hint: Option<Spot>,
     flips: &mut Flips,
 ) -> Result<Option<Spot>, NoMemory>
     requires session { turn.session ≡ session_of machine.old turn.peer }
-    requires found { IsUseOf machine.old.config table_use }
-    requires lent { IsLentInto table_use.table what }
+    requires found { IsUseOf machine.old.config table_use.now }
+    requires lent { IsLentInto table_use.now.table what }
     requires update { IsUpdateOf machine.old.config turn.peer (as_what what) }
     requires book { IsBook machine.old verdicts.old.standing }
     ensures ok { OnOk result
@@ -297,15 +189,17 @@ fn take_each(
     let mut table_use = machine.use_of(turn.table);
     'updates: while place < whats.len() {
         let what = whats.at(place);
-        let Some(table) = machine.table_of(turn.peer, table_use, what) else {
+        let Some(table) = machine.table_of(turn.peer, &table_use, what) else {
             break;
         };
-        table_use = machine.use_after(table_use, table);
+        machine.use_after(&mut table_use, table);
         if !ahead.has(place) {
             ahead.look(machine, turn.peer, whats, place, hints);
         }
         let hint = ahead.spot(place).or(hint_at(hints, place));
-        let taken = take_one(machine, verdicts, drops, turn, table_use, what, hint, flips);
+        let taken = take_one(
+            machine, verdicts, drops, turn, &table_use, what, hint, flips,
+        );
         let Ok(spot) = taken else {
             return Came {
                 place,

@@ -1,23 +1,26 @@
 //! The judging of a key whose rows may have changed.
 
-ghost use Rattle.std.specs.Prelude.{◌≡◌, ◌+◌, ◌*◌, ◌≤◌, true};
+ghost use Rattle.std.specs.Prelude.{◌≡◌, ◌+◌, ◌*◌, ◌≤◌, IfSome, IsTrue, true};
 ghost use Rattle.agg_types.specs.Whats.{as_what};
 ghost use Rattle.fleet_model.specs.Sound.{IsSound};
 ghost use Rattle.fleet_model.specs.State.{State};
-ghost use Rattle.standing_filters.specs.Watched.{IsReady};
+ghost use Rattle.fleet_model.specs.Values.{cols_of};
+ghost use Rattle.screens.specs.Asked.{IsScreen};
+ghost use Rattle.standing_filters.specs.Watched.{HaveNone, IsReady};
 ghost use Rattle.book.specs.Flips.{TellsStepIfKnown};
 ghost use Rattle.book.specs.Reads.{filters_at};
-ghost use Rattle.book.specs.Runs.{IsLentInto};
-ghost use Rattle.book.specs.Uses.{IsUseOf, has_filter};
+ghost use Rattle.book_machine.specs.Turns.{IsLentInto};
+ghost use Rattle.book.specs.Screened.{MeetsNone};
+ghost use Rattle.book_machine.specs.Uses.{IsUseOf, has_filter};
 ghost use Rattle.book.specs.Verdicts.{AreHeld, ChangesKey, Follows, HasRoomFor};
 
-use crate::machine::Machine;
 use crate::one_key::OneKey;
-use crate::table_use::TableUse;
-use crate::verdicts::{Verdicts, has_filter};
+use crate::verdicts::Verdicts;
 use agg_types::{Key, LentWhat};
+use book_machine::{Machine, TableUse, has_filter};
 use crossing::Meter;
 use peer_rows::Spot;
+use screens::Screens;
 use standing_filters::Flips;
 
 impl Verdicts {
@@ -55,14 +58,14 @@ impl Verdicts {
     pub(crate) fn follow_update(
         &mut self,
         machine: &Machine,
-        table_use: TableUse,
+        table_use: &TableUse,
         what: LentWhat<'_>,
         spot: Option<Spot>,
         flips: &mut Flips,
     )
         requires sound { IsSound machine.now }
-        requires found { IsUseOf machine.now.config table_use }
-        requires lent { IsLentInto table_use.table what }
+        requires found { IsUseOf machine.now.config table_use.now }
+        requires lent { IsLentInto table_use.now.table what }
         requires room { HasRoomFor (as_what what) machine.now.config self.old.standing }
         ensures held { (state : State) → Follows (as_what what.entry) state machine.now
             → AreHeld state self.old.standing → AreHeld machine.now self.new.standing }
@@ -76,8 +79,39 @@ impl Verdicts {
         let LentWhat::Put { table, key, .. } = what else {
             return;
         };
+        if self.passes(machine, &table_use.screens, table, key, spot) {
+            return;
+        }
         let mut meter = Meter::new();
         self.judge(machine, table, key, spot, &mut meter, flips);
+    }
+
+    // Whether an update of a key leaves all verdicts as they are: no filter has one on it, and its
+    // rows are worth less than the filters of its table ask.
+    #[inline(always)]
+    fn passes(
+        &self,
+        machine: &Machine,
+        screens: &Option<Screens>,
+        table: usize,
+        key: &Key,
+        spot: Option<Spot>,
+    ) -> bool
+        requires { IfSome screens.now (IsScreen (cols_of machine.now.config.tables table)
+            machine.now.config.filters table) }
+        ensures unheld { IsTrue result → HaveNone key.now self.now.standing.filters }
+        ensures unmet { IsTrue result → MeetsNone machine.now table key.now }
+    {
+        let Some(screens) = screens else {
+            return false;
+        };
+        if self.standing.may_hold(key) {
+            return false;
+        }
+        match machine.rows.of_key_at(spot, table, key) {
+            None => false,
+            Some(rows) => screens.stop(&rows),
+        }
     }
 
     // What `touch` does where a filter is of the table.

@@ -5,21 +5,19 @@
 //! be judged (`forgetting`). The memory that this takes is there before an event is applied
 //! (`preparing`), so following it is sure. A moment by which nothing changes reads nothing.
 
-ghost use Rattle.std.specs.Prelude.{◌≡◌, ◌<◌, ◌==◌, length, IfOk, Some, if◌then◌else◌, nat_lt};
+ghost use Rattle.std.specs.Prelude.{◌≡◌, ◌<◌, length, IfOk, Some, if◌then◌else◌, nat_lt};
 ghost use Rattle.std.specs.Prelude.{[], remove, ℕ, List};
-ghost use Rattle.std.specs.List.{list_any};
 ghost use Rattle.agg_types.specs.Whats.{as_what};
 ghost use Rattle.fleet_model.specs.Sound.{IsSound};
 ghost use Rattle.fleet_model.specs.State.{State};
 ghost use Rattle.book.specs.Flips.{TellsStepIfKnown};
-ghost use Rattle.book.specs.Gone.{AreGone, is_gone};
+ghost use Rattle.book_machine.specs.Gone.{AreGone, is_gone};
 ghost use Rattle.book.specs.Verdicts.{AreHeld, AreHeldFor, Follows, GoesOn, HasFewer, HasRoomFor};
-ghost use Rattle.book.specs.Verdicts.{IsAddedPlace, IsLeaving};
+ghost use Rattle.book_machine.specs.Leaving.{IsAddedPlace, IsLeaving};
 ghost use Rattle.book.specs.Reads.{IsFewBefore, IsFewFor, IsForDue, IsQuietTo, IsQuietUntil};
 
-use crate::gone::Gone;
-use crate::machine::Machine;
-use agg_types::{Filter, LentWhat, NoMemory, What};
+use agg_types::{LentWhat, NoMemory, What};
+use book_machine::{Gone, Machine};
 use crossing::Meter;
 use peer_rows::Spot;
 use standing_filters::{Flips, Standing};
@@ -181,13 +179,6 @@ impl Verdicts {
     {
         drop_at(&mut self.standing, place);
     }
-}
-
-/// Whether some filter is of a table.
-pub(crate) fn has_filter(filters: &[Filter], table: usize) -> bool
-    ensures { result ≡ list_any (λ filter. filter.table == table) filters.now }
-{
-    filters.iter().any(|filter| filter.table == table)
 }
 
 /// Takes away the filter at a place, if there is one.

@@ -5,7 +5,7 @@ use Rattle.fleet_model.specs.State.{State}
 use Rattle.standing_filters.specs.Watched.{Watched, unheld}
 use Rattle.book.specs.Ahead.{AreAhead}
 use Rattle.book.specs.Verdicts.{IsJudged}
-use Rattle.book.specs.Store.{IsEachKeyOf}
+use Rattle.book_rows.specs.Store.{IsEachKeyOf}
 use Rattle.book.proofs.Ahead.{begun, none_ahead, walk_few}
 use Rattle.book.proofs.adding.judged.Goals as goal
 

@@ -1,7 +1,7 @@
 use Rattle.agg_types.specs.declared.column.Col.{Col}
 use Rattle.fleet_model.specs.Keys.{row_worth}
-use Rattle.book.specs.Shown.{as_arrival}
-use Rattle.book.proofs.Columns.{all_done, nothing_of_row, put_next}
+use Rattle.book_rows.specs.Shown.{as_arrival}
+use Rattle.book_rows.proofs.Columns.{all_done, nothing_of_row, put_next}
 use Rattle.book.proofs.by_peer.row_values.Goals as goal
 
 pub loop-stored-preserved : goal.loop-stored-preserved

@@ -5,8 +5,9 @@ use Rattle.agg_types.specs.declared.event.What.{What}
 use Rattle.fleet_model.specs.Machine.{session_of}
 use Rattle.fleet_model.specs.State.{State}
 use Rattle.book.specs.Flips.{TellsStepIfKnown}
-use Rattle.book.specs.Runs.{IsPartApplied, IsUpdateOf, counted_to, with_update}
-use Rattle.book.specs.Uses.{IsUseOf}
+use Rattle.book.specs.Runs.{IsPartApplied}
+use Rattle.book_machine.specs.Turns.{IsUpdateOf, counted_to, with_update}
+use Rattle.book_machine.specs.Uses.{IsUseOf}
 use Rattle.book.proofs.ToldRuns.{told_none, told_update}
 use Rattle.book.proofs.Updates.{part_none, turn_counted, update_more}
 use Rattle.book.proofs.runs.take_each.Goals as goal
@@ -49,8 +50,8 @@ updates-preserved c =
       session = c.updates.invariant.session
           ∙ sym (ap (λ (s : State). session_of s turn.peer) turned);
       seats = ap (λ (s : State). s.seats) turned ∙ c.updates.invariant.seats;
-      found = subst (λ (s : State). IsUseOf s.config c.use_after-table_use.result) (sym turned)
-          c.use_after-table_use.ensures.found;
+      found = subst (λ (s : State). IsUseOf s.config c.use_after.new.last) (sym turned)
+          c.use_after.ensures.found;
       book = c.in-Ok.ensures.book;
       applied = subst (λ (s : State). IsPartApplied turn.seat first whats c.args.from (place + 1)
           c.args.machine.now (counted_to s turn.seat (first + (place + 1)))) (sym turned)

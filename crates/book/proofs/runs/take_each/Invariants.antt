@@ -2,8 +2,9 @@ use Rattle.std.proofs.Common.{◌≡◌, ◌≤◌, ◌+◌, ◌-◌, length}
 use Rattle.fleet_model.specs.Machine.{session_of}
 use Rattle.book.specs.Flips.{TellsAllIfKnown, part_of}
 use Rattle.book.specs.Verdicts.{IsBook}
-use Rattle.book.specs.Uses.{IsUseOf}
-use Rattle.book.specs.Runs.{IsPartApplied, counted_to}
+use Rattle.book_machine.specs.Uses.{IsUseOf}
+use Rattle.book.specs.Runs.{IsPartApplied}
+use Rattle.book_machine.specs.Turns.{counted_to}
 use Rattle.book.proofs.runs.take_each.Given as goal
 
 -- the updates up to here have been applied, but for the count of their seat

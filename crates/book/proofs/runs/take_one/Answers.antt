@@ -2,9 +2,9 @@ use Rattle.std.proofs.Common.{sym, subst}
 use Rattle.agg_types.specs.Whats.{as_what}
 use Rattle.fleet_model.specs.Sound.{IsSound}
 use Rattle.fleet_model.specs.State.{State}
-use Rattle.book.specs.Uses.{IsUseOf}
+use Rattle.book_machine.specs.Uses.{IsUseOf}
 use Rattle.book.specs.Verdicts.{AreAll, Follows}
-use Rattle.book.proofs.Counting.{placed}
+use Rattle.book_machine.proofs.Counting.{placed}
 use Rattle.book.proofs.Updates.{follows_update, sound_update}
 use Rattle.book.proofs.runs.take_one.Goals as goal
 
@@ -20,7 +20,7 @@ follow_update-requires-clause-sound c =
 
 pub follow_update-requires-clause-found : goal.follow_update-requires-clause-found
 follow_update-requires-clause-found c =
-    subst (λ (s : State). IsUseOf s.config c.args.table_use) (sym c.in_ok-applied.ensures.ok)
+    subst (λ (s : State). IsUseOf s.config c.args.table_use.now) (sym c.in_ok-applied.ensures.ok)
     c.requires.found
 
 pub returns-clause-flips : goal.returns-clause-flips

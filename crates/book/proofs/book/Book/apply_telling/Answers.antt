@@ -3,7 +3,7 @@ use Rattle.agg_types.specs.Whats.{as_what}
 use Rattle.agg_types.specs.declared.event.Event.{Event}
 use Rattle.fleet_model.specs.Machine.{counts_now, event_of}
 use Rattle.fleet_model.specs.State.{State}
-use Rattle.book.specs.Dropped.{is_dropped, lacks_room}
+use Rattle.book_machine.specs.Dropped.{is_dropped, lacks_room}
 use Rattle.book.specs.Reads.{IsFewFor}
 use Rattle.book.proofs.FewReads.{few_none}
 use Rattle.book.proofs.Following.{uncounted}

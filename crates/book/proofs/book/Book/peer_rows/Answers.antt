@@ -8,7 +8,7 @@ use Rattle.book.proofs.book.Book.peer_rows.Goals as goal
 pub returns : goal.returns
 returns c =
     let state = c.self.inside.machine in
-    c.peer_rows.ensures
+    c.of.ensures
     ∙ ap (map (peer_row (cols_of state.config.tables c.args.table) state.moment))
     (sym (live_rows state c.args.table c.args.key.now c.self.invariant.sound.live))
     ∙ ap (λ (s : State). peer_rows s c.args.table c.args.key.now) c.self.view_is

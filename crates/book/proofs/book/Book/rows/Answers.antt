@@ -1,5 +1,5 @@
 use Rattle.std.proofs.Common.{◌∙◌}
-use Rattle.book.proofs.Meeting.{all_where}
+use Rattle.book_rows.proofs.KeysMeeting.{all_where}
 use Rattle.book.proofs.book.Book.rows.Goals as goal
 
 pub returns : goal.returns

@@ -4,8 +4,8 @@ use Rattle.fleet_model.specs.Keys.{holds, key_rows}
 use Rattle.fleet_model.specs.State.{State}
 use Rattle.fleet_model.specs.Values.{cols_of}
 use Rattle.book_frame.specs.Lent.{listed_where, shown_row}
-use Rattle.book.specs.Listing.{ListsMeeting}
-use Rattle.book.proofs.Meeting.{filtering, lists_where, live_rows}
+use Rattle.book_rows.specs.Listing.{ListsMeeting}
+use Rattle.book_rows.proofs.KeysMeeting.{filtering, lists_where, live_rows}
 use Rattle.book.proofs.book.Book.rows_where.Goals as goal
 
 pub returns : goal.returns

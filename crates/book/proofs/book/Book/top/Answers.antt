@@ -3,7 +3,7 @@ use Rattle.std.proofs.lemmas.Result.{IfOk-weaker}
 use Rattle.fleet_model.specs.Ranking.{rank_of, ranked}
 use Rattle.fleet_model.specs.Sound.{IsSound}
 use Rattle.fleet_model.specs.State.{State}
-use Rattle.book.proofs.FirstKeys.{all_ranked, lists_short}
+use Rattle.book_machine.proofs.FirstKeys.{all_ranked, lists_short}
 use Rattle.book.proofs.book.Book.top.Goals as goal
 
 pub returns : goal.returns

@@ -1,7 +1,7 @@
 use Rattle.std.proofs.Common.{◌∙◌, length, sym, ap}
 use Rattle.fleet_model.specs.Answers.{keys_of}
 use Rattle.fleet_model.specs.State.{State}
-use Rattle.book.proofs.Reading.{used_live}
+use Rattle.book_rows.proofs.Reading.{used_live}
 use Rattle.book.proofs.book.Book.used.Goals as goal
 
 pub returns : goal.returns

@@ -2,7 +2,7 @@ use Rattle.std.proofs.Common.{ℕ, List, IfSome, subst, rules}
 use Rattle.agg_types.specs.declared.column.Col.{Col}
 use Rattle.crossing.specs.First.{IsDropAt}
 use Rattle.fleet_model.specs.Keys.{key_rows}
-use Rattle.book.specs.Foreseen.{worth_within}
+use Rattle.book_machine.specs.Foreseen.{worth_within}
 use Rattle.book.specs.OneKey.{KeyOf}
 use Rattle.book.proofs.OneKeyed.{IsReadOf, read_of}
 use Rattle.book.proofs.one_key.OneKeyValues.known_drop.Goals as goal

@@ -1,7 +1,7 @@
 use Rattle.std.proofs.Common.{rules}
 use Rattle.fleet_model.specs.Values.{cols_of}
 use Rattle.book.specs.OneKey.{KeyOf}
-use Rattle.book.proofs.Bounding.{most_found}
+use Rattle.book_machine.proofs.FoundAhead.{most_found}
 use Rattle.book.proofs.OneKeyed.{IsReadOf, read_of}
 use Rattle.book.proofs.one_key.OneKeyValues.most.Goals as goal
 

@@ -1,5 +1,5 @@
 use Rattle.std.proofs.Common.{ℕ, Option, subst}
-use Rattle.book.specs.Verdicts.{IsAddedPlace}
+use Rattle.book_machine.specs.Leaving.{IsAddedPlace}
 use Rattle.book.proofs.Dropped.{none_kept}
 use Rattle.book.proofs.verdicts.Verdicts.drop_one.Goals as goal
 

@@ -2,7 +2,7 @@ use Rattle.std.proofs.Common.{◌≡◌, ◌==◌, ◌∙◌, false, sym, ap}
 use Rattle.std.specs.List.{list_any}
 use Rattle.agg_types.specs.declared.config.Filter.{Filter}
 use Rattle.fleet_model.specs.State.{State}
-use Rattle.book.specs.Gone.{is_gone}
+use Rattle.book_machine.specs.Gone.{is_gone}
 use Rattle.book.specs.Verdicts.{AreAll}
 use Rattle.book.proofs.ToldAll.{elsewhere_told, kept_told}
 use Rattle.book.proofs.Judging.{elsewhere_held, forgotten_held, kept_holds}

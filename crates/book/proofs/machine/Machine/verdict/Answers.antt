@@ -1,9 +1,0 @@
-use Rattle.std.proofs.Common.{ap}
-use Rattle.fleet_model.specs.State.{State}
-use Rattle.book.proofs.ByPeer.{foretold}
-use Rattle.book.proofs.machine.Machine.verdict.Goals as goal
-
-pub returns : goal.returns
-returns c = foretold c.args.self.now c.args.filter.now c.args.key.now c.new-values.result
-    c.self.inside.moment c.judge.result c.requires.sound
-    (ap (λ (s : State). s.moment) c.self.view_is) c.new-values.ensures c.judge.ensures.verdict

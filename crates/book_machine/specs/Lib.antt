@@ -1,0 +1,10 @@
+pub mod Dropped
+pub mod Due
+pub mod Flatness
+pub mod Foreseen
+pub mod Gone
+pub mod Leading
+pub mod Leaving
+pub mod Ranks
+pub mod Turns
+pub mod Uses

@@ -1,0 +1,14 @@
+pub mod Arriving
+pub mod Bounding
+pub mod Changing
+pub mod Columns
+pub mod FirstSought
+pub mod Firsts
+pub mod Heads
+pub mod Inside
+pub mod KeyOrder
+pub mod Lists
+pub mod KeysMeeting
+pub mod Placing
+pub mod Reading
+pub mod Together
