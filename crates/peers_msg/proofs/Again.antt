@@ -3,28 +3,28 @@ use Rattle.std.proofs.Common.{◌≡◌, ℕ, ◌+◌, ◌^◌, ◌<◌, ◌≤�
 use Rattle.std.proofs.Common.{◌++◌, length, drop, Option, Some, None, Ok, refl, sym, ap, ◌∙◌}
 use Rattle.std.proofs.Common.{append_assoc, length-append, arith}
 use Rattle.std.specs.Option.{option_map_or}
-use Rattle.std.specs.List.{flat_map, AllByRecursion}
+use Rattle.std.specs.List.{flat_map}
 use Rattle.std.specs.Int.{w32, to_be_bytes, from_be_bytes}
 use Rattle.std.proofs.lemmas.Bool.{le-ltb}
 use Rattle.std.proofs.lemmas.List.{take_at, drop_at, append-nil}
 use Rattle.std.proofs.lemmas.Nat.{from_be_bytes-to_be_bytes_4}
-use Rattle.agg_types.specs.declared.column.TheConstants.{LAST_TYPE}
 use Rattle.agg_types.specs.declared.limits.TheConstants.{LONGEST_PAYLOAD}
 use Rattle.peers_msg.specs.declared.message.Definition.{Definition}
 use Rattle.peers_msg.specs.declared.message.Message.{Message}
 use Rattle.peers_msg.specs.declared.message.Message.TheVariants as messages
 use Rattle.peers_msg.specs.Numeral.{integer_at}
-use Rattle.peers_msg.specs.Payload.{number_at, word_at, word_if, string_at, pair_at, pairs_within}
-use Rattle.peers_msg.specs.Payload.{pairs_at, definition_of, switch_of, acked_of, update_of}
+use Rattle.peers_msg.specs.Payload.{number_at, word_at, word_if, string_at}
+use Rattle.peers_msg.specs.Payload.{definition_of, switch_of, acked_of, update_of}
 use Rattle.peers_msg.specs.Message.{Framed, frame_at, Whole, whole_or_bad, first_in, first_of}
 use Rattle.peers_msg.specs.Message.{message_of, table_of, control_of, error_of, after_message}
 use Rattle.peers_msg.specs.Message.{reading_by, reading_of}
-use Rattle.peers_msg.specs.Spelling.{integer_spelling, word_spelling, pair_spelling}
+use Rattle.peers_msg.specs.Spelling.{integer_spelling, word_spelling, parameter_spelling}
+use Rattle.peers_msg.specs.Spelling.{parameters_of, in_order, as_written}
 use Rattle.peers_msg.specs.Spelling.{definition_spelling, framed_spelling, update_kind}
-use Rattle.peers_msg.specs.Spelling.{message_spelling, IsSendable, IsWord, IsKeptPair, IsDefinition}
+use Rattle.peers_msg.specs.Spelling.{message_spelling, IsSendable, IsWord, IsDefinition}
 use Rattle.peers_msg.specs.Spelling.{IsInRange}
 use Rattle.peers_msg.proofs.Numerals.{spelled, integer_spelled, number_again, spelling_len}
-use Rattle.peers_msg.proofs.Payloads.{pairs_step}
+use Rattle.peers_msg.proofs.Written.{written_again}
 use Rattle.peers_msg.proofs.Readings.{reading_step}
 
 pub word_spelled : (text rest : List ℕ) → length text ≡ 4
@@ -53,38 +53,11 @@ string_again text rest small =
       drop_at text rest (length text) refl,
     ) refl
 
-pair_again : (p : ℕ × ℕ) (rest : List ℕ) → IsKeptPair p → pair_at (pair_spelling p ++ rest)
-    ≡ Some (p, rest)
-unfolding pair_at
-pair_again p rest fits =
-    let regrouped : pair_spelling p ++ rest ≡ integer_spelling p.0 ++ (integer_spelling p.1 ++ rest)
-    = append_assoc (integer_spelling p.0) (integer_spelling p.1) rest in
-    let low : ltb LAST_TYPE p.0 ≡ false = le-ltb LAST_TYPE p.0 fits.0 in
-    ap pair_at regrouped ∙ rw (
-      number_again p.0 (integer_spelling p.1 ++ rest)
-          (omega (arith, fits.0)),
-      number_again p.1 rest fits.1,
-      low,
-    ) refl
-
-pairs_none : pairs_at [] ≡ []
-unfolding pairs_within
-pairs_none = refl
-
-pairs_again : (ps : List (ℕ × ℕ)) → AllByRecursion IsKeptPair ps
-    → pairs_at (flat_map pair_spelling ps) ≡ ps
-pairs_again [] fits = pairs_none
-pairs_again (p ∷ ps) fits =
-    pairs_step (flat_map pair_spelling (p ∷ ps))
-    ∙ ap (λ (o : Option ((ℕ × ℕ) × List ℕ)). option_map_or (λ q. q.0 ∷ pairs_at q.1) o [])
-    (pair_again p (flat_map pair_spelling ps) fits.0)
-    ∙ ap (λ (qs : List (ℕ × ℕ)). p ∷ qs) (pairs_again ps fits.1)
-
 definition_again : (d : Definition) → IsDefinition d → length d.name < 2 ^ 64
-    → definition_of (definition_spelling d) ≡ Some d
+    → definition_of (definition_spelling d) ≡ Some (in_order d)
 unfolding definition_of
 definition_again d fits small =
-    let ps = flat_map pair_spelling d.periods in
+    let ps = flat_map parameter_spelling (parameters_of d) in
     let regrouped : definition_spelling d ≡ integer_spelling d.id
     ++ (integer_spelling (length d.name)
     ++ (d.name ++ (integer_spelling d.kind
@@ -104,7 +77,7 @@ definition_again d fits small =
       number_again d.len (integer_spelling d.bits ++ (integer_spelling d.expiry ++ ps)) fits.len,
       number_again d.bits (integer_spelling d.expiry ++ ps) fits.bits,
       number_again d.expiry ps fits.expiry,
-      pairs_again d.periods fits.periods,
+      written_again d fits,
     ) refl
 
 word_if_again : (w : Option ℕ) (rest : List ℕ) (has : Bool) → IsWord w
@@ -180,7 +153,7 @@ high_update (Some id) (Some life) = omega arith
 high_update None (Some life) = omega arith
 
 table_define : (d : Definition) → IsDefinition d → length d.name < 2 ^ 64
-    → table_of 130 (definition_spelling d) ≡ Some (messages.Define d)
+    → table_of 130 (definition_spelling d) ≡ Some (messages.Define (in_order d))
 unfolding table_of
 table_define d fits small = rw (definition_again d fits small) refl
 
@@ -208,11 +181,11 @@ name_fits d small =
     (length d.name + (length (integer_spelling d.kind) +
     (length (integer_spelling d.len) +
     (length (integer_spelling d.bits) + (length (integer_spelling d.expiry) + length
-    (flat_map pair_spelling d.periods))))))) = simp (append_assoc, length-append) in
+    (flat_map parameter_spelling (parameters_of d)))))))) = simp (append_assoc, length-append) in
     omega (arith, e)
 
 pub first_again : (message : Message) (more : List ℕ) → IsSendable message → IsInRange message
-    → first_of (message_spelling message ++ more) ≡ Whole message more
+    → first_of (message_spelling message ++ more) ≡ Whole (as_written message) more
 unfolding message_spelling first_of frame_at message_of control_of error_of
 first_again messages.Request more sendable fits = refl
 first_again messages.Finished more sendable fits = refl
@@ -226,7 +199,8 @@ first_again (messages.Update id life rest) more sendable fits =
     (messages.Update id life rest) (high_update id life) sendable
     (table_update id life rest fits.0 fits.1)
 first_again (messages.Define d) more sendable fits =
-    framed_again 130 (definition_spelling d) more (messages.Define d) (omega arith) sendable
+    framed_again 130 (definition_spelling d) more (messages.Define (in_order d)) (omega arith)
+    sendable
     (table_define d fits (name_fits d sendable))
 first_again (messages.Switch id) more sendable fits =
     framed_again 131 (integer_spelling id) more (messages.Switch id) (omega arith)
@@ -242,7 +216,8 @@ first_again (messages.Acked id last) more sendable fits =
 first_again (messages.Other class kind) more sendable fits = absurd sendable
 
 pub reading_again : (message : Message) (more : List ℕ) → IsSendable message → IsInRange message
-    → reading_of (message_spelling message ++ more) ≡ after_message message (reading_of more)
+    → reading_of (message_spelling message ++ more)
+    ≡ after_message (as_written message) (reading_of more)
 reading_again message more sendable fits =
     reading_step (message_spelling message ++ more)
     ∙ ap (reading_by reading_of (message_spelling message ++ more))

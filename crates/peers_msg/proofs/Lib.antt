@@ -1,5 +1,6 @@
 pub mod Integers
 pub mod Payloads
+pub mod Written
 pub mod Frames
 pub mod Parts
 pub mod Readings

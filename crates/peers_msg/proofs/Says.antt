@@ -2,27 +2,32 @@
 use Rattle.std.proofs.Common.{◌≡◌, ℕ, zero, suc, ◌+◌, ◌≤◌, Bool, true, false, cond, ltb, List, []}
 use Rattle.std.proofs.Common.{◌∷◌, ◌++◌, length, take, drop, Option, Some, None, Result, Ok, Err}
 use Rattle.std.proofs.Common.{refl, sym, ap, subst, ◌∙◌, append_assoc, length-append, length-take}
-use Rattle.std.proofs.Common.{arith, inl, inr}
+use Rattle.std.proofs.Common.{arith, inl, inr, ◌==◌}
 use Rattle.std.specs.Option.{option_map_or}
 use Rattle.std.specs.Int.{w32, from_be_bytes}
 use Rattle.std.proofs.lemmas.Bool.{ltb-false, le-ltb, cases_lt}
 use Rattle.std.proofs.lemmas.List.{take_at, drop_at, take-append-drop, get_or-drop, get_or-take}
-use Rattle.std.proofs.lemmas.List.{get_or_past}
+use Rattle.std.proofs.lemmas.List.{get_or_past, append-nil}
 use Rattle.std.proofs.lemmas.Option.{none-some, same_Some}
-use Rattle.agg_types.specs.declared.column.TheConstants.{LAST_TYPE}
+use Rattle.peers_msg.specs.declared.data_types.TheConstants.{GPC_RATE_ARRAY}
 use Rattle.peers_msg.specs.declared.integer.IntTooLarge.{IntTooLarge}
 use Rattle.peers_msg.specs.declared.message.Definition.{Definition}
+use Rattle.peers_msg.specs.declared.parameters.Parameter.{Parameter}
+use Rattle.peers_msg.specs.declared.parameters.Parameter.TheVariants.{Pair, Array}
 use Rattle.peers_msg.specs.declared.message.Message.{Message}
 use Rattle.peers_msg.specs.declared.message.Message.TheVariants as messages
 use Rattle.peers_msg.specs.Numeral.{integer_at}
 use Rattle.peers_msg.specs.Payload.{◌>>=◌, split_found, number_at, word_at, word_if, string_at}
-use Rattle.peers_msg.specs.Payload.{pair_at, pairs_at, definition_of, switch_of, acked_of}
-use Rattle.peers_msg.specs.Payload.{update_of}
+use Rattle.peers_msg.specs.Payload.{is_array, is_paired, array_behind, parameter_behind}
+use Rattle.peers_msg.specs.Payload.{parameter_at, parameters_at, pairs_in, arrays_in}
+use Rattle.peers_msg.specs.Payload.{definition_of, switch_of, acked_of, update_of}
 use Rattle.peers_msg.specs.Spelling.{update_kind}
-use Rattle.peers_msg.specs.Reads.{AreBytes, Spells, SpellsWord, SpellsPair, BeginsWithPairs}
-use Rattle.peers_msg.specs.Reads.{Defines, SaysOfTable}
+use Rattle.peers_msg.specs.Reads.{AreBytes, Spells, SpellsWord, SpellsParameter, SpellsPeriod}
+use Rattle.peers_msg.specs.Reads.{BeginsWith, Defines, SaysOfTable}
 use Rattle.peers_msg.proofs.Numerals.{integer_spelled}
-use Rattle.peers_msg.proofs.Payloads.{bind_some, guard_some, pairs_step, pair_shorter}
+use Rattle.peers_msg.proofs.Written.{paired_is, second_of}
+use Rattle.peers_msg.proofs.Payloads.{bool_is, bind_some, guard_some, rest_parameters}
+use Rattle.peers_msg.proofs.Payloads.{parameters_step, parameter_shorter}
 use Rattle.peers_msg.proofs.Again.{word_spelled}
 use Rattle.peers_msg.proofs.Exact.{found_is}
 
@@ -160,75 +165,168 @@ is_string size text rest is =
       drop_at text rest (length text) refl,
     ) refl
 
--- ---- pairs
+-- ---- parameters
 
-pair_is : (bytes : List ℕ) (x : (ℕ × ℕ) × List ℕ) → AreBytes bytes → pair_at bytes ≡ Some x
-    → (text : List ℕ) × (bytes ≡ text ++ x.1) × SpellsPair text x.0
-unfolding pair_at
-pair_is bytes x fits e =
+array_says : (id count : ℕ) (front bytes : List ℕ) (x : Parameter × List ℕ) → AreBytes bytes
+    → is_array id ≡ true → (a b : List ℕ) → front ≡ a ++ b → Spells a id → Spells b count
+    → array_behind id count bytes ≡ Some x
+    → (text : List ℕ) × (front ++ bytes ≡ text ++ x.1) × SpellsParameter text x.0
+array_says id count front bytes x fits array a b parts spells_id spells_count e =
+    elim (bool_is (id == GPC_RATE_ARRAY)) [
+      | inl rates ↦
+          let f = rw rates at e in
+          let p = bind_some (number_at bytes) _ x f in
+          let n = number_is bytes p.0 fits p.1 in
+          let whole : front ++ bytes ≡ (a ++ (b ++ n.0)) ++ p.0.1 =
+          ap (λ (bs : List ℕ). front ++ bs) n.1 ∙ ap (λ (bs : List ℕ). bs ++ (n.0 ++ p.0.1)) parts
+          ∙ append_assoc a b (n.0 ++ p.0.1)
+          ∙ ap (λ (bs : List ℕ). a ++ bs) (sym (append_assoc b n.0 p.0.1))
+          ∙ sym (append_assoc a (b ++ n.0) p.0.1) in
+          subst (λ (y : Parameter × List ℕ). (text : List ℕ) × (front ++ bytes ≡ text ++ y.1)
+          × SpellsParameter text y.0) (same_Some _ x p.2) (
+            a ++ (b ++ n.0),
+            whole,
+            (a, b, n.0, refl, spells_id, spells_count, (rates, n.2), array),
+          )
+      | inr none ↦
+          let f = rw none at e in
+          let whole : front ++ bytes ≡ (a ++ (b ++ [])) ++ bytes =
+          ap (λ (bs : List ℕ). bs ++ bytes) (parts
+          ∙ ap (λ (bs : List ℕ). a ++ bs) (sym (append-nil b))) in
+          subst (λ (y : Parameter × List ℕ). (text : List ℕ) × (front ++ bytes ≡ text ++ y.1)
+          × SpellsParameter text y.0) (same_Some _ x f) (
+            a ++ (b ++ []),
+            whole,
+            (a, b, [], refl, spells_id, spells_count, (none, refl), array),
+          )
+    ]
+
+chosen_says : (array paired : Bool) (id number : ℕ) (front bytes : List ℕ)
+    (x : Parameter × List ℕ) → AreBytes bytes → is_array id ≡ array → is_paired id ≡ paired
+    → (a b : List ℕ) → front ≡ a ++ b → Spells a id → Spells b number
+    → cond array (array_behind id number bytes)
+    (cond paired (Some (Pair id number, bytes)) None) ≡ Some x
+    → (text : List ℕ) × (front ++ bytes ≡ text ++ x.1) × SpellsParameter text x.0
+chosen_says true paired id number front bytes x fits array is a b parts p q e =
+    array_says id number front bytes x fits array a b parts p q e
+chosen_says false true id number front bytes x fits array is a b parts p q e =
+    subst (λ (y : Parameter × List ℕ). (text : List ℕ) × (front ++ bytes ≡ text ++ y.1)
+    × SpellsParameter text y.0) (same_Some _ x e) (front, refl, (a, b, parts, p, q, is))
+chosen_says false false id number front bytes x fits array is a b parts p q e =
+    absurd (none-some x e)
+
+behind_says : (id number : ℕ) (front bytes : List ℕ) (x : Parameter × List ℕ) → AreBytes bytes
+    → (a b : List ℕ) → front ≡ a ++ b → Spells a id → Spells b number
+    → parameter_behind id number bytes ≡ Some x
+    → (text : List ℕ) × (front ++ bytes ≡ text ++ x.1) × SpellsParameter text x.0
+behind_says id number front bytes x fits a b parts p q e =
+    chosen_says (is_array id) (is_paired id) id number front bytes x fits refl refl a b parts p q e
+
+parameter_is : (bytes : List ℕ) (x : Parameter × List ℕ) → AreBytes bytes
+    → parameter_at bytes ≡ Some x
+    → (text : List ℕ) × (bytes ≡ text ++ x.1) × SpellsParameter text x.0
+unfolding parameter_at
+parameter_is bytes x fits e =
     let a = bind_some (number_at bytes)
-    (λ id. number_at id.1 >>= λ period. cond (ltb LAST_TYPE id.0) None
-    (Some ((id.0, period.0), period.1))) x e in
-    let b = bind_some (number_at a.0.1)
-    (λ period. cond (ltb LAST_TYPE a.0.0) None (Some ((a.0.0, period.0), period.1))) x a.2 in
-    let g = guard_some (ltb LAST_TYPE a.0.0) ((a.0.0, b.0.0), b.0.1) x b.2 in
+    (λ id. number_at id.1 >>= λ value. parameter_behind id.0 value.0 value.1) x e in
+    let b = bind_some (number_at a.0.1) (λ value. parameter_behind a.0.0 value.0 value.1) x a.2 in
     let m = number_is bytes a.0 fits a.1 in
-    let n = number_is a.0.1 b.0 (rest_bytes m.0 a.0.1 bytes m.1 fits) b.1 in
+    let fits1 = rest_bytes m.0 a.0.1 bytes m.1 fits in
+    let n = number_is a.0.1 b.0 fits1 b.1 in
+    let fits2 = rest_bytes n.0 b.0.1 a.0.1 n.1 fits1 in
     let whole : bytes ≡ (m.0 ++ n.0) ++ b.0.1 = m.1 ∙ ap (λ (bs : List ℕ). m.0 ++ bs) n.1
     ∙ sym (append_assoc m.0 n.0 b.0.1) in
-    subst (λ (y : (ℕ × ℕ) × List ℕ). (text : List ℕ) × (bytes ≡ text ++ y.1) × SpellsPair text y.0)
-    g.1 (m.0 ++ n.0, whole, (m.0, n.0, refl, m.2, n.2, ltb-false _ _ g.0))
+    let said = behind_says a.0.0 b.0.0 (m.0 ++ n.0) b.0.1 x fits2 m.0 n.0 refl m.2 n.2 b.2 in
+    (said.0, whole ∙ said.1, said.2)
 
-is_pair : (text rest : List ℕ) (p : ℕ × ℕ) → SpellsPair text p
-    → pair_at (text ++ rest) ≡ Some (p, rest)
-unfolding pair_at
-is_pair text rest p is =
-    let regrouped : text ++ rest ≡ is.0 ++ (is.1 ++ rest) = ap (λ (bs : List ℕ). bs ++ rest) is.2
-    ∙ append_assoc is.0 is.1 rest in
-    let low : ltb LAST_TYPE p.0 ≡ false = le-ltb LAST_TYPE p.0 is.5 in
-    ap pair_at regrouped ∙ rw (
-      is_number is.0 (is.1 ++ rest) p.0 is.3,
-      is_number is.1 rest p.1 is.4,
-      low,
+is_pair : (text rest a b : List ℕ) (id period : ℕ) → text ≡ a ++ b → Spells a id
+    → Spells b period → is_paired id ≡ true
+    → parameter_at (text ++ rest) ≡ Some (Pair id period, rest)
+unfolding parameter_at
+is_pair text rest a b id period is p q paired =
+    let regrouped : text ++ rest ≡ a ++ (b ++ rest) = ap (λ (bs : List ℕ). bs ++ rest) is
+    ∙ append_assoc a b rest in
+    ap parameter_at regrouped ∙ rw (
+      is_number a (b ++ rest) id p,
+      is_number b rest period q,
+      second_of (is_array id) (is_paired id) (array_behind id period rest)
+          (Some (Pair id period, rest)) None (paired_is id paired).1 paired,
     ) refl
 
-pairs_are_by : (n : ℕ) (bytes : List ℕ) → length bytes ≤ n → AreBytes bytes
-    → (o : Option ((ℕ × ℕ) × List ℕ)) → pair_at bytes ≡ o
-    → BeginsWithPairs bytes (option_map_or (λ p. p.0 ∷ pairs_at p.1) o [])
-pairs_are_by n bytes le fits None is = λ p text rest e spelled. none-some (p, rest) (sym is
-    ∙ ap pair_at e ∙ is_pair text rest p spelled)
-pairs_are_by zero bytes le fits (Some x) is = absurd (omega (arith, pair_shorter bytes x is))
-pairs_are_by (suc n) bytes le fits (Some x) is =
-    let p = pair_is bytes x fits is in (
+is_array_at : (text rest a b c : List ℕ) (id count : ℕ) (period : Option ℕ)
+    → text ≡ a ++ (b ++ c) → Spells a id → Spells b count → SpellsPeriod c id period
+    → is_array id ≡ true → parameter_at (text ++ rest)
+    ≡ Some (Array (record { id = id; count = count; period = period }), rest)
+unfolding parameter_at
+is_array_at text rest a b c id count None is p q own array =
+    let regrouped : text ++ rest ≡ a ++ (b ++ rest) =
+    ap (λ (bs : List ℕ). bs ++ rest) (is ∙ ap (λ (bs : List ℕ). a ++ (b ++ bs)) own.1
+    ∙ ap (λ (bs : List ℕ). a ++ bs) (append-nil b)) ∙ append_assoc a b rest in
+    ap parameter_at regrouped ∙ rw (
+      is_number a (b ++ rest) id p,
+      is_number b rest count q,
+      array,
+      own.0,
+    ) refl
+is_array_at text rest a b c id count (Some period) is p q own array =
+    let regrouped : text ++ rest ≡ a ++ (b ++ (c ++ rest)) =
+    ap (λ (bs : List ℕ). bs ++ rest) is ∙ append_assoc a (b ++ c) rest
+    ∙ ap (λ (bs : List ℕ). a ++ bs) (append_assoc b c rest) in
+    ap parameter_at regrouped ∙ rw (
+      is_number a (b ++ (c ++ rest)) id p,
+      is_number b (c ++ rest) count q,
+      array,
+      own.0,
+      is_number c rest period own.1,
+    ) refl
+
+is_parameter : (text rest : List ℕ) (p : Parameter) → SpellsParameter text p
+    → parameter_at (text ++ rest) ≡ Some (p, rest)
+is_parameter text rest (Pair id period) is =
+    is_pair text rest is.0 is.1 id period is.2 is.3 is.4 is.5
+is_parameter text rest (Array array) is =
+    is_array_at text rest is.0 is.1 is.2 array.id array.count array.period is.3 is.4 is.5 is.6 is.7
+
+parameters_are_by : (n : ℕ) (bytes : List ℕ) → length bytes ≤ n → AreBytes bytes
+    → (o : Option (Parameter × List ℕ)) → parameter_at bytes ≡ o
+    → BeginsWith bytes (rest_parameters parameters_at o)
+parameters_are_by n bytes le fits None is = λ p text rest e spelled. none-some (p, rest) (sym is
+    ∙ ap parameter_at e ∙ is_parameter text rest p spelled)
+parameters_are_by zero bytes le fits (Some x) is =
+    absurd (omega (arith, parameter_shorter bytes x is))
+parameters_are_by (suc n) bytes le fits (Some x) is =
+    let p = parameter_is bytes x fits is in (
       p.0,
       x.1,
       p.1,
       p.2,
-      subst (BeginsWithPairs x.1) (sym (pairs_step x.1))
-          (pairs_are_by n x.1 (omega (arith, pair_shorter bytes x is))
-          (rest_bytes p.0 x.1 bytes p.1 fits) (pair_at x.1) refl),
+      subst (BeginsWith x.1) (sym (parameters_step x.1))
+          (parameters_are_by n x.1 (omega (arith, parameter_shorter bytes x is))
+          (rest_bytes p.0 x.1 bytes p.1 fits) (parameter_at x.1) refl),
     )
 
-pairs_are : (bytes : List ℕ) → AreBytes bytes → BeginsWithPairs bytes (pairs_at bytes)
-pairs_are bytes fits = subst (BeginsWithPairs bytes) (sym (pairs_step bytes))
-    (pairs_are_by (length bytes) bytes (omega arith) fits (pair_at bytes) refl)
+parameters_are : (bytes : List ℕ) → AreBytes bytes → BeginsWith bytes (parameters_at bytes)
+parameters_are bytes fits = subst (BeginsWith bytes) (sym (parameters_step bytes))
+    (parameters_are_by (length bytes) bytes (omega arith) fits (parameter_at bytes) refl)
 
-no_pair : (bytes : List ℕ) → AreBytes bytes
-    → ((p : ℕ × ℕ) (text rest : List ℕ) → bytes ≡ text ++ rest → SpellsPair text p → ⊥)
-    → (o : Option ((ℕ × ℕ) × List ℕ)) → pair_at bytes ≡ o
-    → option_map_or (λ p. p.0 ∷ pairs_at p.1) o [] ≡ []
-no_pair bytes fits none None is = refl
-no_pair bytes fits none (Some x) is = let p = pair_is bytes x fits is in
+no_parameter : (bytes : List ℕ) → AreBytes bytes
+    → ((p : Parameter) (text rest : List ℕ) → bytes ≡ text ++ rest → SpellsParameter text p → ⊥)
+    → (o : Option (Parameter × List ℕ)) → parameter_at bytes ≡ o
+    → rest_parameters parameters_at o ≡ []
+no_parameter bytes fits none None is = refl
+no_parameter bytes fits none (Some x) is = let p = parameter_is bytes x fits is in
     absurd (none x.0 p.0 x.1 p.1 p.2)
 
-are_pairs : (bytes : List ℕ) (ps : List (ℕ × ℕ)) → AreBytes bytes → BeginsWithPairs bytes ps
-    → pairs_at bytes ≡ ps
-are_pairs bytes [] fits none = pairs_step bytes ∙ no_pair bytes fits none (pair_at bytes) refl
-are_pairs bytes (p ∷ ps) fits h =
-    pairs_step bytes ∙ ap (λ (bs : List ℕ). option_map_or (λ q. q.0 ∷ pairs_at q.1) (pair_at bs) [])
-    h.2 ∙ ap (λ (o : Option ((ℕ × ℕ) × List ℕ)). option_map_or (λ q. q.0 ∷ pairs_at q.1) o [])
-    (is_pair h.0 h.1 p h.3)
-    ∙ ap (λ (qs : List (ℕ × ℕ)). p ∷ qs) (are_pairs h.1 ps (rest_bytes h.0 h.1 bytes h.2 fits) h.4)
+are_parameters : (bytes : List ℕ) (ps : List Parameter) → AreBytes bytes → BeginsWith bytes ps
+    → parameters_at bytes ≡ ps
+are_parameters bytes [] fits none =
+    parameters_step bytes ∙ no_parameter bytes fits none (parameter_at bytes) refl
+are_parameters bytes (p ∷ ps) fits h =
+    parameters_step bytes
+    ∙ ap (λ (bs : List ℕ). rest_parameters parameters_at (parameter_at bs)) h.2
+    ∙ ap (rest_parameters parameters_at) (is_parameter h.0 h.1 p h.3)
+    ∙ ap (λ (qs : List Parameter). p ∷ qs)
+    (are_parameters h.1 ps (rest_bytes h.0 h.1 bytes h.2 fits) h.4)
 
 -- ---- the messages of class 10
 
@@ -283,7 +381,8 @@ definition_is payload d fits e =
       bits =
           bits.0;
       expiry = expiry.0;
-      periods = pairs_at expiry.1;
+      periods = pairs_in (parameters_at expiry.1);
+      arrays = arrays_in (parameters_at expiry.1);
     })) d e in
     let b = bind_some (string_at a.0.1) (λ name. number_at name.1 >>= λ kind. number_at kind.1 >>=
     λ len. number_at len.1 >>= λ bits. number_at bits.1 >>= λ expiry. Some
@@ -295,7 +394,8 @@ definition_is payload d fits e =
       bits = bits.0;
       expiry =
           expiry.0;
-      periods = pairs_at expiry.1;
+      periods = pairs_in (parameters_at expiry.1);
+      arrays = arrays_in (parameters_at expiry.1);
     })) d a.2 in
     let k = bind_some (number_at b.0.1) (λ kind. number_at kind.1 >>= λ len. number_at len.1 >>=
     λ bits. number_at bits.1 >>= λ expiry. Some (record {
@@ -306,7 +406,8 @@ definition_is payload d fits e =
       len = len.0;
       bits = bits.0;
       expiry = expiry.0;
-      periods = pairs_at expiry.1;
+      periods = pairs_in (parameters_at expiry.1);
+      arrays = arrays_in (parameters_at expiry.1);
     })) d
     b.2 in
     let l = bind_some (number_at k.0.1) (λ len. number_at len.1 >>= λ bits. number_at bits.1 >>=
@@ -318,7 +419,8 @@ definition_is payload d fits e =
       bits =
           bits.0;
       expiry = expiry.0;
-      periods = pairs_at expiry.1;
+      periods = pairs_in (parameters_at expiry.1);
+      arrays = arrays_in (parameters_at expiry.1);
     })) d k.2 in
     let t = bind_some (number_at l.0.1) (λ bits. number_at bits.1 >>= λ expiry. Some
     (record {
@@ -329,7 +431,8 @@ definition_is payload d fits e =
       bits = bits.0;
       expiry =
           expiry.0;
-      periods = pairs_at expiry.1;
+      periods = pairs_in (parameters_at expiry.1);
+      arrays = arrays_in (parameters_at expiry.1);
     })) d l.2 in
     let x = bind_some (number_at t.0.1)
     (λ expiry. Some (record {
@@ -340,7 +443,8 @@ definition_is payload d fits e =
       bits =
           t.0.0;
       expiry = expiry.0;
-      periods = pairs_at expiry.1;
+      periods = pairs_in (parameters_at expiry.1);
+      arrays = arrays_in (parameters_at expiry.1);
     })) d t.2 in
     let a' = number_is payload a.0 fits a.1 in
     let fits1 = rest_bytes a'.0 a.0.1 payload a'.1 fits in
@@ -363,7 +467,8 @@ definition_is payload d fits e =
       bits =
           t.0.0;
       expiry = x.0.0;
-      periods = pairs_at x.0.1;
+      periods = pairs_in (parameters_at x.0.1);
+      arrays = arrays_in (parameters_at x.0.1);
     } in
     let same : made ≡ d = same_Some made d x.2 in
     subst (Defines payload) same (record {
@@ -384,7 +489,10 @@ definition_is payload d fits e =
       len_is = l'.2;
       bits_is = t'.2;
       expiry_is = x'.2;
-      pairs = pairs_are x.0.1 fits6;
+      parameters = parameters_at x.0.1;
+      begins = parameters_are x.0.1 fits6;
+      periods_are = refl;
+      arrays_are = refl;
     })
 
 pub is_definition : (payload : List ℕ) (d : Definition) → AreBytes payload → Defines payload d
@@ -396,6 +504,11 @@ is_definition payload d fits h =
     ++ (d.name ++ (h.kind ++ (h.len ++ (h.bits ++ (h.expiry ++ h.behind)))))) ≡ front
     ++ h.behind = simp append_assoc in
     let fits6 = rest_bytes front h.behind payload (h.whole ∙ regrouped) fits in
+    let same : Definition = record d {
+      periods = pairs_in h.parameters;
+      arrays = arrays_in h.parameters;
+    } in
+    let is_same : same ≡ d = rw (← h.periods_are, ← h.arrays_are) refl in
     ap definition_of h.whole
     ∙ rw (
       is_number h.id (h.name_len ++ (d.name
@@ -406,8 +519,8 @@ is_definition payload d fits h =
       is_number h.len (h.bits ++ (h.expiry ++ h.behind)) d.len h.len_is,
       is_number h.bits (h.expiry ++ h.behind) d.bits h.bits_is,
       is_number h.expiry h.behind d.expiry h.expiry_is,
-      are_pairs h.behind d.periods fits6 h.pairs,
-    ) refl
+      are_parameters h.behind h.parameters fits6 h.begins,
+    ) (ap Some is_same)
 
 pub define_is : (payload : List ℕ) (message : Message) → AreBytes payload
     → (definition_of payload >>= λ d. Some (messages.Define d)) ≡ Some message

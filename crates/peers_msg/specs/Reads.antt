@@ -1,14 +1,17 @@
 -- What a text says, message by message: relations between whole texts and what they stand for.
 use Rattle.std.specs.Prelude.{◌≡◌, ◌≢◌, ◌⊎◌, ℕ, ◌^◌, ◌<◌, ◌≤◌, List, [], ◌∷◌, ◌++◌, length}
-use Rattle.std.specs.Prelude.{slice_index, Option, Some, None}
+use Rattle.std.specs.Prelude.{slice_index, Option, Some, None, ◌==◌, true, false}
 use Rattle.std.specs.Int.{w32, from_be_bytes}
-use Rattle.agg_types.specs.declared.column.TheConstants.{LAST_TYPE}
 use Rattle.agg_types.specs.declared.limits.TheConstants.{LONGEST_PAYLOAD}
+use Rattle.peers_msg.specs.declared.data_types.TheConstants.{GPC_RATE_ARRAY}
 use Rattle.peers_msg.specs.declared.message.Definition.{Definition}
 use Rattle.peers_msg.specs.declared.message.Message.{Message}
 use Rattle.peers_msg.specs.declared.message.Message.TheVariants as messages
 use Rattle.peers_msg.specs.declared.fault.WireCause.{WireCause}
 use Rattle.peers_msg.specs.declared.fault.WireCause.TheVariants.{TooLong, BadInteger, BadField}
+use Rattle.peers_msg.specs.declared.parameters.Parameter.{Parameter}
+use Rattle.peers_msg.specs.declared.parameters.Parameter.TheVariants.{Pair, Array}
+use Rattle.peers_msg.specs.Payload.{is_array, is_paired, pairs_in, arrays_in}
 use Rattle.peers_msg.specs.Numeral.{value, IsSpelling, IsIntegerAt, IsCut, IsTooLarge}
 use Rattle.peers_msg.specs.Message.{control_of, error_of}
 use Rattle.peers_msg.specs.Spelling.{update_kind}
@@ -28,20 +31,29 @@ abbrev pub SpellsWord : List ℕ → Option ℕ → Type 0
 SpellsWord text None = text ≡ []
 SpellsWord text (Some n) = (length text ≡ 4) × (from_be_bytes w32 text ≡ n)
 
--- a data type's id up to that of the last column, and its period
-abbrev pub SpellsPair : List ℕ → ℕ × ℕ → Type 0
-SpellsPair text p =
-    (id period : List ℕ) × (text ≡ id ++ period) × Spells id p.0 × Spells period p.1
-    × (p.0 ≤ LAST_TYPE)
+-- an array of rates has a period, and no other array has one
+abbrev pub SpellsPeriod : List ℕ → ℕ → Option ℕ → Type 0
+SpellsPeriod text id None = ((id == GPC_RATE_ARRAY) ≡ false) × (text ≡ [])
+SpellsPeriod text id (Some period) = ((id == GPC_RATE_ARRAY) ≡ true) × Spells text period
 
--- these pairs stand at the front, and no further one behind them
-abbrev pub BeginsWithPairs : List ℕ → List (ℕ × ℕ) → Type 0
-BeginsWithPairs bytes [] =
-    (p : ℕ × ℕ) (text rest : List ℕ) → bytes ≡ text ++ rest → SpellsPair text p → ⊥
-BeginsWithPairs bytes (p ∷ ps) =
-    (text rest : List ℕ) × (bytes ≡ text ++ rest) × SpellsPair text p × BeginsWithPairs rest ps
+-- the id of a data type and its period; or the id of an array, how many elements it has, and their
+-- period if they are rates
+abbrev pub SpellsParameter : List ℕ → Parameter → Type 0
+SpellsParameter text (Pair number period) =
+    (a b : List ℕ) × (text ≡ a ++ b) × Spells a number × Spells b period
+    × (is_paired number ≡ true)
+SpellsParameter text (Array array) =
+    (a b c : List ℕ) × (text ≡ a ++ (b ++ c)) × Spells a array.id × Spells b array.count
+    × SpellsPeriod c array.id array.period × (is_array array.id ≡ true)
 
--- the payload of a definition: its fields, one after the other, and the pairs behind them
+-- these parameters stand at the front, and no further one behind them
+abbrev pub BeginsWith : List ℕ → List Parameter → Type 0
+BeginsWith bytes [] =
+    (p : Parameter) (text rest : List ℕ) → bytes ≡ text ++ rest → SpellsParameter text p → ⊥
+BeginsWith bytes (p ∷ ps) =
+    (text rest : List ℕ) × (bytes ≡ text ++ rest) × SpellsParameter text p × BeginsWith rest ps
+
+-- the payload of a definition: its fields, one after the other, and the parameters behind them
 pub record Defines (payload : List ℕ) (d : Definition) : Type 0 where
   pub id : List ℕ
   pub name_len : List ℕ
@@ -58,7 +70,10 @@ pub record Defines (payload : List ℕ) (d : Definition) : Type 0 where
   pub len_is : Spells len d.len
   pub bits_is : Spells bits d.bits
   pub expiry_is : Spells expiry d.expiry
-  pub pairs : BeginsWithPairs behind d.periods
+  pub parameters : List Parameter
+  pub begins : BeginsWith behind parameters
+  pub periods_are : d.periods ≡ pairs_in parameters
+  pub arrays_are : d.arrays ≡ arrays_in parameters
 
 -- no type of the table class has this number
 abbrev pub IsNoTableType : ℕ → Type 0

@@ -1,13 +1,20 @@
 -- How integers and messages are spelled.
 use Rattle.std.specs.Prelude.{ℕ, zero, suc, ◌+◌, ◌-◌, ◌/◌, ◌%◌, ◌^◌, ◌<◌, ◌≤◌, nat_lt, List, []}
-use Rattle.std.specs.Prelude.{◌∷◌, ◌++◌, length, Option, Some, None, if◌then◌else◌}
+use Rattle.std.specs.Prelude.{◌∷◌, ◌++◌, length, option_to_list, Option, Some, None, ◌≡◌, ◌==◌}
+use Rattle.std.specs.Prelude.{true, false, map, if◌then◌else◌}
+use Rattle.std.specs.Option.{option_map}
 use Rattle.std.specs.List.{flat_map, AllByRecursion}
 use Rattle.std.specs.Int.{w32, to_be_bytes}
 use Rattle.agg_types.specs.declared.column.TheConstants.{LAST_TYPE}
 use Rattle.agg_types.specs.declared.limits.TheConstants.{LONGEST_PAYLOAD}
+use Rattle.peers_msg.specs.declared.data_types.TheConstants.{GPC_RATE_ARRAY}
+use Rattle.peers_msg.specs.declared.message.ArrayParameter.{ArrayParameter}
 use Rattle.peers_msg.specs.declared.message.Definition.{Definition}
 use Rattle.peers_msg.specs.declared.message.Message.{Message}
 use Rattle.peers_msg.specs.declared.message.Message.TheVariants as messages
+use Rattle.peers_msg.specs.declared.parameters.Parameter.{Parameter}
+use Rattle.peers_msg.specs.declared.parameters.Parameter.TheVariants.{Pair, Array}
+use Rattle.peers_msg.specs.Payload.{is_array, is_paired, pairs_in, arrays_in}
 use Rattle.peers_msg.specs.Kinds.{control_class, error_class, table_class, resync_request}
 use Rattle.peers_msg.specs.Kinds.{resync_finished, resync_partial, resync_confirm, heartbeat}
 use Rattle.peers_msg.specs.Kinds.{protocol_error, size_error, update, incremental_update}
@@ -31,8 +38,43 @@ abbrev pub word_spelling : Option ℕ → List ℕ
 word_spelling None = []
 word_spelling (Some n) = to_be_bytes w32 n
 
-abbrev pub pair_spelling : ℕ × ℕ → List ℕ
-pair_spelling p = integer_spelling p.0 ++ integer_spelling p.1
+-- the period of an array, where it has one
+abbrev pub period_spelling : Option ℕ → List ℕ
+period_spelling None = []
+period_spelling (Some period) = integer_spelling period
+
+abbrev pub parameter_spelling : Parameter → List ℕ
+parameter_spelling (Pair id period) = integer_spelling id ++ integer_spelling period
+parameter_spelling (Array array) =
+    integer_spelling array.id ++ integer_spelling array.count ++ period_spelling array.period
+
+abbrev pub pair_id : ℕ × ℕ → ℕ
+pair_id pair = pair.0
+
+abbrev pub array_id : ArrayParameter → ℕ
+array_id array = array.id
+
+-- the last one that has this id, or what was found before
+abbrev pub last_of : {A : Type 0} → (A → ℕ) → Option A → ℕ → List A → Option A
+last_of id_of found id [] = found
+last_of id_of found id (x ∷ xs) = last_of id_of (if id_of x == id then Some x else found) id xs
+
+-- the parameter of a data type, if the definition has one
+abbrev pub parameter_of : Definition → ℕ → Option Parameter
+parameter_of d id =
+    if is_array id then option_map Array (last_of array_id None id d.arrays)
+    else (if is_paired id
+    then option_map (λ pair. Pair pair.0 pair.1) (last_of pair_id None id d.periods) else None)
+
+-- the parameters of so many data types from this one on
+abbrev pub parameters_from : Definition → ℕ → ℕ → List Parameter
+parameters_from d zero id = []
+parameters_from d (suc n) id =
+    option_to_list (parameter_of d id) ++ parameters_from d n (suc id)
+
+-- the parameters as they are written: ascending by data type, each once
+abbrev pub parameters_of : Definition → List Parameter
+parameters_of d = parameters_from d (suc LAST_TYPE) 0
 
 -- a definition's fields up to the expiry
 abbrev pub fields_spelling : Definition → List ℕ
@@ -41,7 +83,7 @@ fields_spelling d =
     ++ integer_spelling d.len ++ integer_spelling d.bits ++ integer_spelling d.expiry
 
 abbrev pub definition_spelling : Definition → List ℕ
-definition_spelling d = fields_spelling d ++ flat_map pair_spelling d.periods
+definition_spelling d = fields_spelling d ++ flat_map parameter_spelling (parameters_of d)
 
 abbrev pub payload_spelling : Message → List ℕ
 payload_spelling (messages.Update id life rest) = word_spelling id ++ word_spelling life ++ rest
@@ -96,18 +138,26 @@ abbrev pub IsWord : Option ℕ → Type 0
 IsWord None = Unit {0}
 IsWord (Some n) = n < 2 ^ 32
 
--- the pair of a data type whose period is read
-abbrev pub IsKeptPair : ℕ × ℕ → Type 0
-IsKeptPair p = (p.0 ≤ LAST_TYPE) × (p.1 < 2 ^ 64)
+abbrev pub IsPeriod : ℕ × ℕ → Type 0
+IsPeriod p = p.1 < 2 ^ 64
 
--- a definition's numbers are in their ranges, and its pairs are of data types whose period is read
+-- an array of rates has a period, and no other one has
+abbrev pub HasOwnPeriod : ℕ → Option ℕ → Type 0
+HasOwnPeriod id None = (id == GPC_RATE_ARRAY) ≡ false
+HasOwnPeriod id (Some period) = ((id == GPC_RATE_ARRAY) ≡ true) × (period < 2 ^ 64)
+
+abbrev pub IsArray : ArrayParameter → Type 0
+IsArray array = (array.count < 2 ^ 64) × HasOwnPeriod array.id array.period
+
+-- a definition's numbers are in their ranges
 pub record IsDefinition (d : Definition) : Type 0 where
   pub id : d.id < 2 ^ 64
   pub kind : d.kind < 2 ^ 64
   pub len : d.len < 2 ^ 64
   pub bits : d.bits < 2 ^ 64
   pub expiry : d.expiry < 2 ^ 64
-  pub periods : AllByRecursion IsKeptPair d.periods
+  pub periods : AllByRecursion IsPeriod d.periods
+  pub arrays : AllByRecursion IsArray d.arrays
 
 -- a message's numbers are in their ranges
 abbrev pub IsInRange : Message → Type 0
@@ -116,3 +166,28 @@ IsInRange (messages.Define definition) = IsDefinition definition
 IsInRange (messages.Switch id) = id < 2 ^ 64
 IsInRange (messages.Acked id last) = (id < 2 ^ 64) × (last < 2 ^ 32)
 IsInRange message = Unit {0}
+
+-- a definition with its parameters as they are written
+abbrev pub in_order : Definition → Definition
+in_order d =
+    record d {
+      periods = pairs_in (parameters_of d);
+      arrays = arrays_in (parameters_of d);
+    }
+
+-- a message as what is written of it is read again
+abbrev pub as_written : Message → Message
+as_written (messages.Define definition) = messages.Define (in_order definition)
+as_written message = message
+
+-- the ids ascend, from this one on, up to that of the last column
+abbrev pub Ascend : ℕ → List ℕ → Type 0
+Ascend least [] = Unit {0}
+Ascend least (id ∷ ids) = (least ≤ id) × (id ≤ LAST_TYPE) × Ascend (suc id) ids
+
+-- a definition's pairs and its arrays ascend, and are of data types that have such ones
+pub record IsInOrder (d : Definition) : Type 0 where
+  pub pairs : Ascend 0 (map pair_id d.periods)
+  pub arrays : Ascend 0 (map array_id d.arrays)
+  pub are_pairs : AllByRecursion (λ p. is_paired p.0 ≡ true) d.periods
+  pub are_arrays : AllByRecursion (λ a. is_array a.id ≡ true) d.arrays

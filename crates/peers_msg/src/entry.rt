@@ -211,5 +211,6 @@ fn duplicate(alloc: Global, definition: &Definition) -> Result<Definition, NoMem
         bits: definition.bits,
         expiry: definition.expiry,
         periods: definition.periods.duplicate(alloc)?,
+        arrays: definition.arrays.duplicate(alloc)?,
     })
 }

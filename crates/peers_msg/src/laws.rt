@@ -4,10 +4,11 @@
 ghost use Rattle.std.specs.Prelude.{◌≡◌, ◌++◌, ℕ, List, Option, Some};
 ghost use Rattle.peers_msg.specs.Numeral.{IsSpelling, value};
 ghost use Rattle.peers_msg.specs.Spelling.{integer_spelling, message_spelling, IsSendable};
-ghost use Rattle.peers_msg.specs.Spelling.{IsInRange};
+ghost use Rattle.peers_msg.specs.Spelling.{IsInRange, IsInOrder, as_written, in_order};
 ghost use Rattle.peers_msg.specs.Message.{after_message, reading_of, first_of, reading_by};
 ghost use Rattle.peers_msg.specs.Feed.{goes_on};
 ghost use Rattle.peers_msg.specs.Reads.{AreBytes, Reads};
+ghost use Rattle.peers_msg.specs.declared.message.Definition.{Definition};
 ghost use Rattle.peers_msg.specs.declared.message.Message.{Message};
 ghost use Rattle.peers_msg.specs.declared.fault.WireCause.{WireCause};
 
@@ -46,8 +47,11 @@ pub fn first_message()
     ensures { (bytes : List ℕ) → reading_of bytes ≡ reading_by reading_of bytes (first_of bytes) }
 {}
 
-/// What is written is read again, whatever follows it.
+/// What is written is read again, whatever follows it: a definition with its parameters in order,
+/// which leaves those as they are that ascend.
 pub fn written_is_read()
-    ensures { (message : Message) (more : List ℕ) → IsSendable message → IsInRange message
-        → reading_of (message_spelling message ++ more) ≡ after_message message (reading_of more) }
+    ensures read { (message : Message) (more : List ℕ) → IsSendable message → IsInRange message
+        → reading_of (message_spelling message ++ more)
+        ≡ after_message (as_written message) (reading_of more) }
+    ensures same { (d : Definition) → IsInOrder d → in_order d ≡ d }
 {}

@@ -12,6 +12,7 @@
 //! memory is there, nor how fast it goes.
 #![tactic(auto)]
 
+pub mod data_types;
 mod decoding;
 mod entry;
 mod fault;
@@ -22,6 +23,7 @@ mod integer;
 pub mod kinds;
 pub mod laws;
 mod message;
+mod parameters;
 mod payload;
 mod room;
 mod writing;
@@ -31,5 +33,5 @@ pub use fault::{WireCause, WireFault};
 pub use feed::Feed;
 pub use given::Given;
 pub use integer::{IntTooLarge, get_int, put_int};
-pub use message::{Definition, Message};
+pub use message::{ArrayParameter, Definition, Message};
 pub use writing::write_message;

@@ -64,7 +64,21 @@ pub struct Definition {
     pub bits: u64,
     /// The life of an entry in milliseconds; 0 for no end.
     pub expiry: u64,
-    /// Each data type's id, up to that of the last column, with its period in milliseconds, in the
-    /// order in which they were sent. The last pair of an id holds.
+    /// Each data type's id with its period in milliseconds, in the order in which they were sent:
+    /// up to that of the last column, but for the arrays' and that of servers' names. The last pair
+    /// of an id holds.
     pub periods: Items<(u64, u64)>,
+    /// The arrays, in the order in which they were sent. The last one of an id holds.
+    pub arrays: Items<ArrayParameter>,
+}
+
+/// What a definition says of an array.
+#[derive(Clone, Copy, Debug)]
+pub struct ArrayParameter {
+    /// The data type's id: `GPT_ARRAY`, `GPC_ARRAY` or `GPC_RATE_ARRAY`.
+    pub id: u64,
+    /// How many elements the array has.
+    pub count: u64,
+    /// The period of all elements in milliseconds, where they are rates.
+    pub period: Option<u64>,
 }

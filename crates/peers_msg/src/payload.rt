@@ -2,13 +2,13 @@
 
 ghost use Rattle.std.specs.Prelude.{◌≡◌, ◌<◌, ◌≤◌, length, drop, IfOk, IfSome, option_map};
 ghost use Rattle.peers_msg.specs.Gives.{Gives, GivesBefore};
-ghost use Rattle.peers_msg.specs.Payload.{number_at, word_at, word_if, string_at, pair_at};
-ghost use Rattle.peers_msg.specs.Payload.{pairs_at, definition_of, switch_of, acked_of, update_of};
+ghost use Rattle.peers_msg.specs.Payload.{number_at, word_at, word_if, string_at};
+ghost use Rattle.peers_msg.specs.Payload.{definition_of, switch_of, acked_of, update_of};
 ghost use Rattle.peers_msg.specs.declared.message.Message.TheVariants as messages;
 
 use crate::integer::read_int;
+use crate::parameters::parameters;
 use crate::{Definition, WireCause};
-use agg_types::{Items, LAST_TYPE, NoMemory};
 use bytes::Bytes;
 use std::alloc::Global;
 
@@ -69,7 +69,7 @@ fn take_string(rest: &mut Bytes) -> Result<Bytes, WireCause>
 
 /// The encoded integer at the front, and the bytes after it.
 #[tactic(auto, unfolding(crate::specs::Payload::number_at))]
-fn number(bytes: &[u8]) -> Option<(u64, &[u8])>
+pub(crate) fn number(bytes: &[u8]) -> Option<(u64, &[u8])>
     ensures exact { option_map (λ x. (x.0, x.1.now)) result ≡ number_at bytes.now }
     ensures shorter { IfSome result (λ x. length x.1.now < length bytes.now) }
 {
@@ -78,33 +78,6 @@ fn number(bytes: &[u8]) -> Option<(u64, &[u8])>
         Ok(None) => None,
         Err(_) => None,
     }
-}
-
-/// The pair at the front of a data type's id and its period, and the bytes after it.
-#[tactic(auto, unfolding(crate::specs::Payload::pair_at))]
-fn pair(bytes: &[u8]) -> Option<((u64, u64), &[u8])>
-    ensures exact { option_map (λ x. (x.0, x.1.now)) result ≡ pair_at bytes.now }
-    ensures shorter { IfSome result (λ x. length x.1.now < length bytes.now) }
-{
-    let (id, rest) = number(bytes)?;
-    let (period, rest) = number(rest)?;
-    if id > LAST_TYPE {
-        return None;
-    }
-    Some(((id, period), rest))
-}
-
-/// The whole pairs at the front.
-fn pairs(alloc: Global, bytes: &[u8]) -> Result<Items<(u64, u64)>, NoMemory>
-    ensures { IfOk result (λ found. found ≡ pairs_at bytes.now) }
-{
-    let mut found = Vec::new(alloc);
-    let mut rest = bytes;
-    while let Some((next, after)) = pair(rest) {
-        found.push(next)?;
-        rest = after;
-    }
-    Ok(Items::from_vec(found))
 }
 
 /// Reads a definition.
@@ -119,7 +92,7 @@ pub(crate) fn read_definition(alloc: Global, payload: Bytes) -> Result<Definitio
     let len = take_number(&mut rest)?;
     let bits = take_number(&mut rest)?;
     let expiry = take_number(&mut rest)?;
-    let periods = pairs(alloc, rest.as_slice())?;
+    let (periods, arrays) = parameters(alloc, rest.as_slice())?;
     Ok(Definition {
         id,
         name,
@@ -128,6 +101,7 @@ pub(crate) fn read_definition(alloc: Global, payload: Bytes) -> Result<Definitio
         bits,
         expiry,
         periods,
+        arrays,
     })
 }
 

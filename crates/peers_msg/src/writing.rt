@@ -1,15 +1,15 @@
 //! Messages as bytes.
 
 ghost use Rattle.std.specs.Prelude.{◌≡◌, ◌++◌, ◌∷◌, [], length, take, OnOk, OnErr};
-ghost use Rattle.std.specs.List.{flat_map};
 ghost use Rattle.std.specs.Int.{w32, to_be_bytes};
 ghost use Rattle.peers_msg.specs.Kinds.{table_definition, table_switch, acknowledgement};
-ghost use Rattle.peers_msg.specs.Spelling.{IsSendable, integer_spelling, pair_spelling};
+ghost use Rattle.peers_msg.specs.Spelling.{IsSendable, integer_spelling};
 ghost use Rattle.peers_msg.specs.Spelling.{word_spelling, fields_spelling, definition_spelling};
 ghost use Rattle.peers_msg.specs.Spelling.{table_spelling, update_kind, message_spelling};
 
 use crate::integer::append_int;
 use crate::kinds::*;
+use crate::parameters::append_parameters;
 use crate::{Definition, Message};
 use agg_types::NoMemory;
 
@@ -162,7 +162,7 @@ fn append_definition(definition: &Definition, out: &mut Vec<u8>) -> Result<(), N
 {
     let mut payload = Vec::new(*out.allocator());
     append_fields(definition, &mut payload)?;
-    append_pairs(definition.periods.as_slice(), &mut payload)?;
+    append_parameters(definition, &mut payload)?;
     append_framed(TABLE_DEFINITION, payload.as_slice(), out)
 }
 
@@ -177,15 +177,4 @@ fn append_fields(definition: &Definition, out: &mut Vec<u8>) -> Result<(), NoMem
     append_int(definition.len, out)?;
     append_int(definition.bits, out)?;
     append_int(definition.expiry, out)
-}
-
-/// Appends the pairs of a data type's id and its period.
-fn append_pairs(pairs: &[(u64, u64)], out: &mut Vec<u8>) -> Result<(), NoMemory>
-    ensures { OnOk result (out.new.items ≡ out.old.items ++ flat_map pair_spelling pairs.now) }
-{
-    for (id, period) in pairs {
-        append_int(*id, out)?;
-        append_int(*period, out)?;
-    }
-    Ok(())
 }

@@ -20,7 +20,7 @@ use Rattle.session_core.specs.Piece.{Setup}
 use Rattle.session_core.specs.Talk.{Words, meaning, talk, talk_after, words_of, words_on}
 use Rattle.session_core.specs.TalkAnswers.{is_open_or_put}
 use Rattle.session_core.specs.Tracked.{put_of}
-use Rattle.session_core.specs.Values.{key_at, sents_at}
+use Rattle.update_values.specs.Values.{cells_at, key_at}
 use Rattle.std.specs.Prelude.{slice_get}
 use Rattle.session_core.proofs.FitLemmas.{bind_some, some_same, words_all}
 use Rattle.session_core.proofs.HelloLineLemmas.{LineIs, line_is}
@@ -32,8 +32,8 @@ unfolding put_of
 row_is_put tables peer followed life bytes put is =
     let shape = bind_some (slice_get tables followed.table) _ put is in
     let key = bind_some (key_at shape.0.kind bytes) _ put shape.2 in
-    let sents = bind_some (sents_at followed.bits key.0.1) _ put key.2 in
-    ap is_open_or_put (sym (some_same sents.2))
+    let cells = bind_some (cells_at followed.layout shape.0.cols key.0.1) _ put key.2 in
+    ap is_open_or_put (sym (some_same cells.2))
 
 facts_after : (tables : List Shape) (hello : Result (Option (ℕ × List ℕ)) Status)
     → list_all is_open_or_put (talk_after tables hello).facts ≡ true

@@ -1,6 +1,7 @@
 -- Every fact fits the configuration.
 use Rattle.std.proofs.Common.{inl, inr, ◌≡◌, ℕ, ◌%◌, ◌^◌, ◌<◌, ◌≤◌, Bool, true, false, ◌==◌, ◌&&◌}
-use Rattle.std.proofs.Common.{if◌then◌else◌, List, [], ◌∷◌, ◌++◌, length, take, slice_get, is_some}
+use Rattle.std.proofs.Common.{if◌then◌else◌, List, [], ◌∷◌, ◌++◌, length, take, map, slice_get}
+use Rattle.std.proofs.Common.{is_some}
 use Rattle.std.proofs.Common.{Option, Some, None, Result, Ok, Err, refl, sym, ap, ◌∙◌, arith, lit<}
 use Rattle.std.specs.List.{list_all}
 use Rattle.std.specs.Option.{option_map}
@@ -21,6 +22,7 @@ use Rattle.agg_types.specs.declared.config.Config.{Config}
 use Rattle.agg_types.specs.declared.config.KeyKind.{KeyKind}
 use Rattle.agg_types.specs.declared.config.KeyKind.TheVariants.{Integer, Ip, Ipv6, Str, Binary}
 use Rattle.agg_types.specs.declared.config.Shape.{Shape}
+use Rattle.agg_types.specs.declared.event.Cell.{Cell}
 use Rattle.agg_types.specs.declared.event.What.{What}
 use Rattle.agg_types.specs.declared.event.What.TheVariants.{Put}
 use Rattle.peers_msg.specs.Message.{reading_of}
@@ -35,8 +37,7 @@ use Rattle.session_core.specs.declared.cause.Status.TheVariants.{LocalName}
 use Rattle.session_core.specs.declared.stage.StageOutcome.{StageOutcome}
 use Rattle.session_core.specs.Meaning.{Meaning, Nothing, Confirm, Partial, Fact, End}
 use Rattle.session_core.specs.declared.track.Followed.{Followed}
-use Rattle.session_core.specs.declared.values.Sent.{Sent}
-use Rattle.session_core.specs.declared.values.Sent.TheVariants.{Absent, Count, Rate}
+use Rattle.update_values.specs.declared.layout.Layout.{Layout}
 use Rattle.session_core.specs.Batched.{Batched}
 use Rattle.session_core.specs.Hello as hello
 use Rattle.session_core.specs.Hello.{admitted, hello_of, line_at, peer_of, receiver_line}
@@ -48,49 +49,52 @@ use Rattle.session_core.specs.Talk.{Words, is_too_many, meaning, row_or_end, tal
 use Rattle.session_core.specs.Talk.{update_under, words_of, words_on}
 use Rattle.session_core.specs.TalkAnswers.{FactsFit, FaultAnswersTalk, AnswersTalk}
 use Rattle.session_core.specs.Tracked.{followed_of, put_of}
-use Rattle.session_core.specs.Values.{bytes_at, cell_of, cells_of, count_cell, key_at, life_of}
-use Rattle.session_core.specs.Values.{life_said, life_within, rate_cell, sents_at, text_at}
+use Rattle.session_core.specs.Lives.{life_of, life_said, life_within}
+use Rattle.update_values.specs.Layout.{types_read}
+use Rattle.update_values.specs.Values.{bytes_at, cell_of, cells_at, count_in, key_at, rate_in}
+use Rattle.update_values.specs.Values.{text_at, values_from}
 use Rattle.session_core.proofs.MeaningLemmas.{bool_tells, none_some}
 use Rattle.session_core.proofs.TrackLemmas.{lt_tells}
 
 -- ---- cells
 
-rate_fits : (col : Col) (given : Bool) (sent : Sent)
-    → cell_fits col (rate_cell given sent) ≡ is_rate col
-rate_fits col true (Rate elapsed cur prev) = refl
-rate_fits col false (Rate elapsed cur prev) = refl
-rate_fits col true Absent = refl
-rate_fits col false Absent = refl
-rate_fits col true (Count count) = refl
-rate_fits col false (Count count) = refl
-
-count_fits : (col : Col) (limit : ℕ) (sent : Sent) → is_rate col ≡ false → 0 < limit
-    → limit ≡ (if is_wide col then 2 ^ 64 else 2 ^ 32)
-    → cell_fits col (count_cell limit sent) ≡ true
-count_fits col limit (Count count) rate some is =
-    rw (rate, ← is, lt-ltb (count % limit) limit (mod-lt count some)) refl
-count_fits col limit Absent rate some is = rw (rate, ← is, lt-ltb 0 limit some) refl
-count_fits col limit (Rate elapsed cur prev) rate some is =
-    rw (rate, ← is, lt-ltb 0 limit some) refl
+rate_fits : (col : Col) (numbers : List ℕ) → cell_fits col (rate_in numbers) ≡ is_rate col
+rate_fits col [] = refl
+rate_fits col (elapsed ∷ []) = refl
+rate_fits col (elapsed ∷ cur ∷ []) = refl
+rate_fits col (elapsed ∷ cur ∷ prev ∷ numbers) = refl
 
 limit_some : (wide : Bool) → 0 < (if wide then 2 ^ 64 else 2 ^ 32)
 limit_some true = lit< tt
 limit_some false = lit< tt
 
-cell_is_fit : (sents : List Sent) (periods : List ℕ) (col : Col × ℕ)
-    → cell_fits col.0 (cell_of sents periods col) ≡ true
+count_fits : (col : Col) (numbers : List ℕ) → is_rate col ≡ false
+    → cell_fits col (count_in (is_wide col) numbers) ≡ true
+count_fits col [] rate = rw (
+  rate,
+  lt-ltb 0 (if is_wide col then 2 ^ 64 else 2 ^ 32) (limit_some (is_wide col)),
+) refl
+count_fits col (count ∷ numbers) rate =
+    let limit = if is_wide col then 2 ^ 64 else 2 ^ 32 in
+    rw (
+      rate,
+      lt-ltb (count % limit) limit (mod-lt count (limit_some (is_wide col))),
+    ) refl
+
+cell_is_fit : (layout : Layout) (values : List (List ℕ)) (col : Col × ℕ)
+    → cell_fits col.0 (cell_of layout values col) ≡ true
 unfolding cell_of
-cell_is_fit sents periods col =
+cell_is_fit layout values col =
     elim (bool_tells (is_rate col.0)) [
-      | inl e ↦ rw e (rate_fits col.0 _ _ ∙ e)
-      | inr e ↦ rw e (count_fits col.0 _ _ e (limit_some (is_wide col.0)) refl)
+      | inl e ↦ rw e (rate_fits col.0 _ ∙ e)
+      | inr e ↦ rw e (count_fits col.0 _ e)
     ]
 
-cells_are_fit : (sents : List Sent) (periods : List ℕ) (cols : List (Col × ℕ))
-    → cells_fit cols (cells_of sents periods cols) ≡ true
-cells_are_fit sents periods [] = refl
-cells_are_fit sents periods (col ∷ cols) =
-    rw (cell_is_fit sents periods col, cells_are_fit sents periods cols) refl
+cells_are_fit : (layout : Layout) (values : List (List ℕ)) (cols : List (Col × ℕ))
+    → cells_fit cols (map (cell_of layout values) cols) ≡ true
+cells_are_fit layout values [] = refl
+cells_are_fit layout values (col ∷ cols) =
+    rw (cell_is_fit layout values col, cells_are_fit layout values cols) refl
 
 -- ---- keys
 
@@ -145,17 +149,25 @@ pub bind_some : {A B : Type 0} (o : Option A) (f : A → Option B) (y : B) → (
 bind_some (Some x) f y e = (x, refl, e)
 bind_some None f y e = elim (none_some y e) [ ]
 
+read_are_fit : (layout : Layout) (cols : List (Col × ℕ)) (bytes : List ℕ) (cells : List Cell)
+    → cells_at layout cols bytes ≡ Some cells → cells_fit cols cells ≡ true
+unfolding cells_at
+read_are_fit layout cols bytes cells is =
+    let values = bind_some (values_from layout (types_read layout cols) 0 bytes) _ cells is in
+    ap (cells_fit cols) (sym (some_same values.2)) ∙ cells_are_fit layout values.0 cols
+
 put_fits : (config : Config) (peer : ℕ) (followed : Followed) (life : Option ℕ) (shape : Shape)
-    (key : List ℕ) (sents : List Sent) → peer < length config.peers
+    (key : List ℕ) (cells : List Cell) → peer < length config.peers
     → slice_get config.tables followed.table ≡ Some shape → key_fits shape.kind key ≡ true
-    → fits config (Put peer followed.table key (life_of shape.keep followed.expiry life)
-    (cells_of sents followed.periods shape.cols)) ≡ true
-put_fits config peer followed life shape key sents within at key_is =
+    → cells_fit shape.cols cells ≡ true
+    → fits config (Put peer followed.table key (life_of shape.keep followed.expiry life) cells)
+    ≡ true
+put_fits config peer followed life shape key cells within at key_is cells_are =
     rw (
       lt-ltb peer (length config.peers) within,
       life_is_fit shape.keep followed.expiry life,
       at,
-    ) (rw (key_is, cells_are_fit sents followed.periods shape.cols) refl)
+    ) (rw (key_is, cells_are) refl)
 
 pub put_is_fit : (config : Config) (peer : ℕ) (followed : Followed) (life : Option ℕ)
     (bytes : List ℕ) (put : What) → peer < length config.peers
@@ -164,9 +176,10 @@ unfolding put_of
 put_is_fit config peer followed life bytes put within is =
     let shape = bind_some (slice_get config.tables followed.table) _ put is in
     let key = bind_some (key_at shape.0.kind bytes) _ put shape.2 in
-    let sents = bind_some (sents_at followed.bits key.0.1) _ put key.2 in
-    ap (fits config) (sym (some_same sents.2)) ∙ put_fits config peer followed life shape.0 key.0.0
-    sents.0 within shape.1 (key_is_fit shape.0.kind bytes key.0 key.1)
+    let cells = bind_some (cells_at followed.layout shape.0.cols key.0.1) _ put key.2 in
+    ap (fits config) (sym (some_same cells.2)) ∙ put_fits config peer followed life shape.0 key.0.0
+    cells.0 within shape.1 (key_is_fit shape.0.kind bytes key.0 key.1)
+    (read_are_fit followed.layout shape.0.cols key.0.1 cells.0 cells.1)
 
 -- ---- messages
 

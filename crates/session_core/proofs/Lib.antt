@@ -10,10 +10,8 @@ pub mod FitLemmas
 pub mod OverLemmas
 pub mod HelloLineLemmas
 pub mod CountedLemmas
-pub mod PlanLemmas
 pub mod FactLemmas
 pub mod PlanNowLemmas
 pub mod UndoLemmas
 pub mod AskingLemmas
-pub mod AlongLemmas
 pub mod PutLemmas

@@ -5,7 +5,7 @@ use Rattle.std.specs.Prelude.{slice_get, slice_set, IfSome}
 use Rattle.std.proofs.lemmas.List.{length-set}
 use Rattle.std.proofs.lemmas.Option.{slice_get_read}
 use Rattle.agg_types.specs.declared.config.Shape.{Shape}
-use Rattle.session_core.specs.declared.decode_plan.DecodePlan.{DecodePlan}
+use Rattle.update_values.specs.declared.decode_plan.DecodePlan.{DecodePlan}
 use Rattle.session_core.specs.declared.track.Entry.{Entry}
 use Rattle.session_core.specs.declared.track.Followed.{Followed}
 use Rattle.session_core.specs.Plan.{IsPlanNow, IsPlanOf, followed_now}

@@ -14,9 +14,10 @@ use Rattle.peers_msg.specs.declared.message.Message.TheVariants as messages
 use Rattle.session_core.specs.declared.track.Entry.{Entry}
 use Rattle.session_core.specs.declared.track.Followed.{Followed}
 use Rattle.session_core.specs.declared.track.Heard.TheVariants as heard
-use Rattle.session_core.specs.declared.decode_plan.DecodePlan.{DecodePlan}
+use Rattle.update_values.specs.declared.decode_plan.DecodePlan.{DecodePlan}
 use Rattle.session_core.specs.Meaning.{AddsFact}
-use Rattle.session_core.specs.Plan.{IsPlan, IsPlanNow, IsPlanOf, followed_now}
+use Rattle.update_values.specs.Plan.{IsPlan}
+use Rattle.session_core.specs.Plan.{IsPlanNow, IsPlanOf, followed_now}
 use Rattle.session_core.specs.Puts.{IsInForce, PutsGoOn, after_puts, put_in}
 use Rattle.session_core.specs.Run.{GoesOn, Run, run}
 use Rattle.session_core.specs.Tracked.{Tracked, IsStep, id_after, put_of, step_of, updated_under}
@@ -174,15 +175,15 @@ now_of_force tables t at entry followed shape last is =
 pub plan_of_force : (tables : List Shape) (t : Tracked) (at : ℕ) (entry : Entry)
     (followed : Followed) (shape : Shape) (last : ℕ) (plan : DecodePlan)
     → IsInForce tables t at entry followed shape last
-    → IsPlan followed.bits followed.periods shape.cols plan → IsPlanOf tables followed plan
+    → IsPlan followed.layout shape.cols plan → IsPlanOf tables followed plan
 plan_of_force tables t at entry followed shape last plan is h =
-    λ other e. subst (λ (s : Shape). IsPlan followed.bits followed.periods s.cols plan)
+    λ other e. subst (λ (s : Shape). IsPlan followed.layout s.cols plan)
     (some_same (sym is.has_shape ∙ e)) h
 
 pub plan_in_force : (plan : Option DecodePlan) (tables : List Shape) (t : Tracked) (at : ℕ)
     (entry : Entry) (followed : Followed) (shape : Shape) (last : ℕ)
     → IsInForce tables t at entry followed shape last → IfSome plan (IsPlanNow tables t)
-    → IfSome plan (IsPlan followed.bits followed.periods shape.cols)
+    → IfSome plan (IsPlan followed.layout shape.cols)
 plan_in_force None tables t at entry followed shape last is h = tt
 plan_in_force (Some plan) tables t at entry followed shape last is h =
     h followed (now_of_force tables t at entry followed shape last is) shape is.has_shape

@@ -1,12 +1,10 @@
 pub mod Hello
 pub mod HelloLines
-pub mod Values
+pub mod Lives
 pub mod Cause
 pub mod Meaning
 pub mod Tracked
-pub mod Straight
 pub mod Plan
-pub mod Along
 pub mod Run
 pub mod Batched
 pub mod Piece

@@ -10,13 +10,13 @@ use Rattle.session_core.specs.declared.track.Entry.{Entry}
 use Rattle.session_core.specs.declared.track.Followed.{Followed}
 use Rattle.session_core.specs.Run.{GoesOn, run}
 use Rattle.session_core.specs.Tracked.{Tracked}
-use Rattle.session_core.specs.Values.{cells_of, key_at, life_of, sents_at}
+use Rattle.session_core.specs.Lives.{life_of}
+use Rattle.update_values.specs.Values.{cells_at, key_at}
 
 -- the row of this key and this life that values give; None where one is cut short or over
 abbrev pub put_of_values : Shape → ℕ → Followed → Option ℕ → List ℕ → List ℕ → Option What
 put_of_values shape peer followed life key values = do
-  sents ← sents_at followed.bits values
-  let cells = cells_of sents followed.periods shape.cols
+  cells ← cells_at followed.layout shape.cols values
   Some (Put peer followed.table key life cells)
 
 -- the row that an update gives under a definition of this table; None where its key or a value is

@@ -23,7 +23,9 @@ use Rattle.session_core.specs.declared.track.Followed.{Followed}
 use Rattle.session_core.specs.declared.track.Entry.{Entry}
 use Rattle.session_core.specs.Meaning.{Meaning, Nothing, Confirm, Partial, Fact, End, IsHeard}
 use Rattle.session_core.specs.declared.track.Heard.{Heard}
-use Rattle.session_core.specs.Values.{key_at, sents_at, periods_of, cells_of, life_of}
+use Rattle.session_core.specs.Lives.{life_of}
+use Rattle.update_values.specs.Layout.{layout_of}
+use Rattle.update_values.specs.Values.{cells_at, key_at}
 
 -- the ids' entries, ascending by id, and the place of the one in force, if it is followed
 pub record Tracked : Type 0 where
@@ -45,9 +47,8 @@ abbrev pub followed_as : ℕ → Definition → Followed
 followed_as table definition =
     record {
       table = table;
-      bits = definition.bits;
       expiry = definition.expiry;
-      periods = periods_of definition.periods;
+      layout = layout_of definition;
     }
 
 -- the same, if its key is that table's
@@ -68,8 +69,7 @@ unfoldable pub put_of : List Shape → ℕ → Followed → Option ℕ → List 
 put_of tables peer followed life bytes = do
   shape ← slice_get tables followed.table
   key ← key_at shape.kind bytes
-  sents ← sents_at followed.bits key.1
-  let cells = cells_of sents followed.periods shape.cols
+  cells ← cells_at followed.layout shape.cols key.1
   Some (Put peer followed.table key.0 (life_of shape.keep followed.expiry life) cells)
 
 -- an update's id: the explicit one, or the one after the last

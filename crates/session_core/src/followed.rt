@@ -4,9 +4,9 @@ ghost use Rattle.std.specs.Prelude.{◌≡◌};
 ghost use Rattle.session_core.specs.Tracked.{is_key_of, followed_at, followed_of};
 
 use crate::track::Followed;
-use crate::values::periods_of;
 use agg_types::{Declared, KeyKind, KeyLength, Shape};
 use peers_msg::Definition;
+use update_values::layout_of;
 
 fn is_key_of(kind: KeyKind, sent: u64, len: u64) -> bool
     ensures { result ≡ is_key_of kind sent len }
@@ -38,8 +38,7 @@ fn followed_at(table: usize, definition: &Definition, shape: &Shape) -> Option<F
     }
     Some(Followed {
         table,
-        bits: definition.bits,
         expiry: definition.expiry,
-        periods: periods_of(definition.periods.as_slice()),
+        layout: layout_of(definition),
     })
 }

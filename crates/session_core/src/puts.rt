@@ -2,20 +2,20 @@
 //! other, is looked up once.
 
 ghost use Rattle.std.specs.Prelude.{◌≡◌, ◌≤◌, ◌==◌, IfOk, IfSome, OnOk, Some};
-ghost use Rattle.std.specs.Option.{option_map};
 ghost use Rattle.agg_types.specs.Kind.{kind_length};
 ghost use Rattle.session_core.specs.Meaning.{AddsFact};
-ghost use Rattle.session_core.specs.Plan.{AreCells, IsPlan, IsPlanOf, cells_read};
+ghost use Rattle.session_core.specs.Plan.{IsPlanOf};
 ghost use Rattle.session_core.specs.Puts.{PutsGoOn, put_in, put_of_values};
-ghost use Rattle.session_core.specs.Tracked.{put_of};
-ghost use Rattle.session_core.specs.Values.{cells_of, sents_at};
+ghost use Rattle.session_core.specs.Tracked.{id_after, put_of};
+ghost use Rattle.update_values.specs.Plan.{AreCells, IsPlan, cells_read};
+ghost use Rattle.update_values.specs.Values.{cells_at};
 
-use crate::cached_plan::CachedPlan;
+use crate::lives::life_of;
 use crate::track::Followed;
-use crate::values::{id_after, key_at, key_of, key_of_length, life_of};
 use agg_types::{Cell, Cells, Col, Declared, KeyLength, NoMemory, PackedCells, Shape, What, Whats};
 use peers_msg::{Given, LentMessage};
 use std::alloc::Global;
+use update_values::{CachedPlan, key_at, key_of, key_of_length};
 
 /// Adds the rows of the updates from a place on to the facts, up to the first message that is none
 /// or can't be read: its place, and the id of the last update before it. They are read along the
@@ -32,11 +32,11 @@ pub(crate) fn put_updates(
     last: u32,
     facts: &mut Whats,
 ) -> Result<(usize, u32), NoMemory>
-    requires { IsPlan followed.now.bits followed.now.periods shape.now.cols plan.old }
+    requires { IsPlan followed.now.layout shape.now.cols plan.old }
     ensures puts { IfOk result (λ x. PutsGoOn peer followed.now shape.now from last facts.old
         facts.new given.now.messages x.0 x.1) }
     ensures forward { IfOk result (λ x. from ≤ x.0) }
-    ensures planned { IsPlan followed.now.bits followed.now.periods shape.now.cols plan.new }
+    ensures planned { IsPlan followed.now.layout shape.now.cols plan.new }
 {
     let length = shape.kind.length();
     let count = given.len();
@@ -75,11 +75,11 @@ fn put(
     bytes: &[u8],
     facts: &mut Whats,
 ) -> Result<bool, NoMemory>
-    requires plan { IsPlan followed.now.bits followed.now.periods shape.now.cols plan.old }
+    requires plan { IsPlan followed.now.layout shape.now.cols plan.old }
     requires length { length ≡ kind_length shape.now.kind }
     ensures put { IfOk result (λ told. AddsFact told facts.old facts.new
         (put_in shape.now peer followed.now life bytes.now)) }
-    ensures planned { IsPlan followed.now.bits followed.now.periods shape.now.cols plan.new }
+    ensures planned { IsPlan followed.now.layout shape.now.cols plan.new }
 {
     let Some((key, values)) = key_of_length(length, bytes) else {
         return Ok(false);
@@ -102,10 +102,9 @@ fn pack_cells(
     plan: &CachedPlan,
     values: &[u8],
 ) -> Option<PackedCells>
-    requires { IsPlan followed.now.bits followed.now.periods cols.now plan.now }
+    requires { IsPlan followed.now.layout cols.now plan.now }
     ensures { IfSome result (λ packed.
-        option_map (λ sents. cells_of sents followed.now.periods cols.now)
-        (sents_at followed.now.bits values.now) ≡ Some packed) }
+        cells_at followed.now.layout cols.now values.now ≡ Some packed) }
 {
     plan.pack(values)
 }
@@ -125,10 +124,10 @@ fn put_wide(
     values: &[u8],
     facts: &mut Whats,
 ) -> Result<bool, NoMemory>
-    requires { IsPlan followed.now.bits followed.now.periods shape.now.cols plan.old }
+    requires { IsPlan followed.now.layout shape.now.cols plan.old }
     ensures put { IfOk result (λ told. AddsFact told facts.old facts.new
         (put_of_values shape.now peer followed.now life key.now values.now)) }
-    ensures planned { IsPlan followed.now.bits followed.now.periods shape.now.cols plan.new }
+    ensures planned { IsPlan followed.now.layout shape.now.cols plan.new }
 {
     if !read_cells(followed, shape.cols.as_slice(), plan, values) {
         return Ok(false);
@@ -146,11 +145,10 @@ fn read_cells(
     plan: &mut CachedPlan,
     values: &[u8],
 ) -> bool
-    requires { IsPlan followed.now.bits followed.now.periods cols.now plan.old }
+    requires { IsPlan followed.now.layout cols.now plan.old }
     ensures cells { AreCells result plan.new.cells.items
-        (option_map (λ sents. cells_of sents followed.now.periods cols.now)
-        (sents_at followed.now.bits values.now)) }
-    ensures planned { IsPlan followed.now.bits followed.now.periods cols.now plan.new }
+        (cells_at followed.now.layout cols.now values.now) }
+    ensures planned { IsPlan followed.now.layout cols.now plan.new }
 {
     plan.read(values)
 }
@@ -162,12 +160,12 @@ pub(crate) fn make_plan(
     cols: &[(Col, u32)],
     plan: &mut Option<CachedPlan>,
 ) -> Result<(), NoMemory>
-    requires { IfSome plan.old (IsPlan followed.now.bits followed.now.periods cols.now) }
+    requires { IfSome plan.old (IsPlan followed.now.layout cols.now) }
     ensures { OnOk result
-        (IfSome plan.new (IsPlan followed.now.bits followed.now.periods cols.now)) }
+        (IfSome plan.new (IsPlan followed.now.layout cols.now)) }
 {
     if plan.is_none() {
-        let made = CachedPlan::new(alloc, followed.bits, &followed.periods, cols)?;
+        let made = CachedPlan::new(alloc, &followed.layout, cols)?;
         *plan = Some(made);
     }
     Ok(())
@@ -222,17 +220,16 @@ fn read_planned(
     plan: &mut Option<CachedPlan>,
     values: &[u8],
 ) -> Result<bool, NoMemory>
-    requires { IfSome plan.old (IsPlan followed.now.bits followed.now.periods cols.now) }
+    requires { IfSome plan.old (IsPlan followed.now.layout cols.now) }
     ensures cells { IfOk result (λ whole. AreCells whole (cells_read plan.new)
-        (option_map (λ sents. cells_of sents followed.now.periods cols.now)
-        (sents_at followed.now.bits values.now))) }
+        (cells_at followed.now.layout cols.now values.now)) }
     ensures planned { OnOk result
-        (IfSome plan.new (IsPlan followed.now.bits followed.now.periods cols.now)) }
+        (IfSome plan.new (IsPlan followed.now.layout cols.now)) }
 {
     if let Some(plan) = plan {
         return Ok(plan.read(values));
     }
-    let mut made = CachedPlan::new(alloc, followed.bits, &followed.periods, cols)?;
+    let mut made = CachedPlan::new(alloc, &followed.layout, cols)?;
     let whole = made.read(values);
     *plan = Some(made);
     Ok(whole)
@@ -246,5 +243,16 @@ fn cells_read(plan: &Option<CachedPlan>) -> &[Cell]
     match plan {
         Some(plan) => plan.cells(),
         None => &[],
+    }
+}
+
+/// The id of an update, where the last one's is this.
+#[inline]
+pub(crate) fn id_after(last: u32, id: Option<u32>) -> u32
+    ensures { result ≡ id_after last id }
+{
+    match id {
+        Some(id) => id,
+        None => last.wrapping_add(1),
     }
 }

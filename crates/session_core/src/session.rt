@@ -9,7 +9,8 @@ use crate::SessionCause;
 use crate::batch::{Batch, SessionFault};
 use crate::cause::End;
 use crate::stage::{Outcome, Stage, take_piece};
-use agg_types::{Config, Items, NoMemory, Whats};
+use agg_types::{Config, NoMemory, Whats};
+use bytes::Bytes;
 use std::alloc::Global;
 use std::marker::Model;
 use std::mem;
@@ -96,7 +97,7 @@ impl Session {
     {
         Session {
             seated,
-            stage: Stage::Greeting(Items::from_vec(Vec::new(alloc))),
+            stage: Stage::Greeting(Bytes::new()),
             last_input: now,
             last_output: now,
             late: false,

@@ -20,7 +20,8 @@ use crate::hello::hello_of;
 use crate::run::{run, write_acks};
 use crate::track::Track;
 use crate::undo::Change;
-use agg_types::{Config, Declared, Items, NoMemory, Shape, What, Whats};
+use agg_types::{Config, Declared, NoMemory, Shape, What, Whats};
+use bytes::Bytes;
 use peers_msg::{Feed, Given, Message, WireCause, write_message};
 use std::alloc::Global;
 
@@ -41,7 +42,7 @@ pub(crate) struct Dialogue {
 #[derive(Debug, Drop)]
 pub(crate) enum Stage {
     /// The bytes of a hello that isn't whole yet.
-    Greeting(Items<u8>),
+    Greeting(Bytes),
     Talking(Dialogue),
     /// Why the session is over, and its peer if the hello was accepted.
     Over(End, Option<usize>),
@@ -107,12 +108,12 @@ pub(crate) fn take_piece(
     }
 }
 
-fn joined(alloc: Global, front: &[u8], back: &[u8]) -> Result<Vec<u8>, NoMemory>
-    ensures { IfOk result (λ bytes. bytes.items ≡ front.now ++ back.now) }
+fn joined(alloc: Global, front: &[u8], back: &[u8]) -> Result<Bytes, NoMemory>
+    ensures { IfOk result (λ bytes. bytes ≡ front.now ++ back.now) }
 {
     let mut bytes = Vec::from_slice(alloc, front)?;
     bytes.extend_from_slice(back)?;
-    Ok(bytes)
+    Ok(Bytes::from_vec(bytes)?)
 }
 
 /// The bytes of a hello, and what may follow it.
@@ -120,16 +121,16 @@ fn greet(
     alloc: Global,
     config: &Config,
     seated: bool,
-    bytes: Vec<u8>,
+    bytes: Bytes,
 ) -> Result<StageOutcome, NoMemory>
     ensures greeted { IfOk result (λ outcome. outcome
-        ≡ hello_outcome config.now.tables bytes.items
-        (hello_of config.now.me config.now.peers seated bytes.items)) }
+        ≡ hello_outcome config.now.tables bytes
+        (hello_of config.now.me config.now.peers seated bytes)) }
     ensures settled { IfOk result (λ outcome. IsSettled outcome.stage) }
 {
     match hello_of(config, seated, bytes.as_slice()) {
         Ok(None) => Ok(StageOutcome {
-            stage: Stage::Greeting(Items::from_vec(bytes)),
+            stage: Stage::Greeting(bytes),
             batch: Batch::empty(alloc),
             end: None,
         }),

@@ -11,18 +11,17 @@ ghost use Rattle.session_core.specs.Tracked.{followed_of, id_after};
 ghost use Rattle.session_core.specs.Tracked.{place, entry_of, IsStep, defined, switched};
 ghost use Rattle.session_core.specs.Tracked.{updated_under, step_of};
 
-use crate::cached_plan::{CachedPlan, take_plan};
 use crate::cause::End;
 use crate::followed::followed_of;
-use crate::puts::{make_plan, put_updates, tell_put};
+use crate::puts::{id_after, make_plan, put_updates, tell_put};
 use crate::run::clear_updated;
 use crate::undo::{Change, note, take_back};
-use crate::values::{TYPES, id_after};
 use agg_types::limits::MOST_FOLLOWED;
 use agg_types::{Declared, NoMemory, Shape, Whats};
 use peers_msg::{Definition, Given, LentMessage, WireCause};
 use std::alloc::Global;
 use std::mem;
+use update_values::{CachedPlan, Layout, take_plan};
 
 /// The most plans that are kept for tables that aren't in force.
 const MOST_PLANS: usize = 16;
@@ -35,12 +34,10 @@ const MOST_CHANGES: usize = 4;
 pub(crate) struct Followed {
     /// The position of the configured table.
     pub(crate) table: usize,
-    /// The data types that are sent, a bit for each.
-    pub(crate) bits: u64,
     /// The life of a row in ms; 0 for no end.
     pub(crate) expiry: u64,
-    /// The period of each data type in ms; 0 where none is given.
-    pub(crate) periods: [u64; TYPES],
+    /// What is said of the values.
+    pub(crate) layout: Layout,
 }
 
 /// What is kept of a sender's table id that was once followed.
@@ -184,12 +181,7 @@ impl Track {
     {
         let followed = followed_now(self.entries.as_slice(), self.current)?;
         let shape = tables.get(followed.table)?;
-        take_plan(
-            &mut self.plans,
-            followed.bits,
-            &followed.periods,
-            shape.cols.as_slice(),
-        )
+        take_plan(&mut self.plans, &followed.layout, shape.cols.as_slice())
     }
 
     /// Keeps a plan for later. It goes where as many are kept already, or where an allocation

@@ -1,5 +1,5 @@
 use Rattle.std.proofs.Common.{◌≡◌, ◌≤◌, ◌-◌}
-use Rattle.session_core.specs.Plan.{IsPlan}
+use Rattle.update_values.specs.Plan.{IsPlan}
 use Rattle.session_core.specs.Puts.{PutsGoOn}
 use Rattle.session_core.proofs.puts.put_updates.Given as goal
 
@@ -10,7 +10,7 @@ invariant-loop-at l =
           l.given.messages l.at l.newest;
       forward : l.from ≤ l.at;
       first : l.at ≡ l.from → l.newest ≡ l.last;
-      planned : IsPlan l.followed.bits l.followed.periods l.shape.cols l.plan;
+      planned : IsPlan l.followed.layout l.shape.cols l.plan;
     }
 
 abbrev pub decreases-loop-at : goal.decreases-loop-at

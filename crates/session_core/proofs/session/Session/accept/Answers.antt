@@ -4,5 +4,4 @@ use Rattle.session_core.proofs.TalkAnswerLemmas.{stage_of_none}
 use Rattle.session_core.proofs.session.Session.accept.Goals as goal
 
 pub returns-clause-stands : goal.returns-clause-stands
-returns-clause-stands c = λ setup. ap (λ bytes. Greeting bytes) (c.from_vec.ensures
-    ∙ c.new.ensures.items) ∙ stage_of_none setup c.args.seated
+returns-clause-stands c = λ setup. ap (λ bytes. Greeting bytes) c.new.ensures ∙ stage_of_none setup c.args.seated

@@ -1,5 +1,0 @@
-use Rattle.std.proofs.Common.{length}
-use Rattle.session_core.proofs.cached_plan.+same_cols.Given as goal
-
-abbrev pub decreases-same_cols : goal.decreases-same_cols
-decreases-same_cols l = length l.left.now

@@ -1,0 +1,3 @@
+pub mod PlanLemmas
+pub mod AlongLemmas
+pub mod LackLemmas

@@ -1,0 +1,6 @@
+pub mod Layout
+pub mod Values
+pub mod Straight
+pub mod Plan
+pub mod Along
+pub mod Lack
