@@ -8,9 +8,9 @@ use Rattle.agg_types.specs.declared.config.Config.{Config}
 use Rattle.agg_types.specs.declared.event.Event.{Event}
 use Rattle.fleet_model.specs.State.{State}
 use Rattle.session_core.specs.Silence.{peer_of}
-use Rattle.telling.specs.Pushes.{pushed_of}
+use Rattle.pushed_keys.specs.Pushes.{pushed_of}
+use Rattle.pushed_keys.specs.declared.pushed.Pushed.{Pushed}
 use Rattle.telling.specs.Telling.{told_after, turn_text}
-use Rattle.telling.specs.declared.pushed.Pushed.{Pushed}
 use Rattle.fleet_core.specs.declared.connection.Connection.{Connection}
 use Rattle.fleet_core.specs.declared.step.Replies.{Replies}
 use Rattle.fleet_core.specs.declared.step.Step.{Step}

@@ -6,10 +6,10 @@ use Rattle.agg_types.specs.declared.config.Config.{Config}
 use Rattle.session_core.specs.Asking.{asks_all}
 use Rattle.session_core.specs.Cause.{cause_of}
 use Rattle.session_core.specs.Silence.{peer_of}
-use Rattle.telling.specs.Telling.{asked, told_after, turn_text}
-use Rattle.telling.specs.declared.pushed.Pushed.{Pushed}
 use Rattle.session_core.specs.Piece.{setup_of}
 use Rattle.session_core.specs.Talk.{Talk, stage_of, talk}
+use Rattle.pushed_keys.specs.declared.pushed.Pushed.{Pushed}
+use Rattle.telling.specs.Telling.{asked, told_after, turn_text}
 use Rattle.fleet_core.specs.declared.connection.Connection.{Connection}
 use Rattle.fleet_core.specs.declared.connection.Outcome.{Outcome}
 use Rattle.fleet_core.specs.Links.{found}

@@ -8,9 +8,9 @@ use Rattle.session_core.specs.Asking.{asks_all}
 use Rattle.session_core.specs.Piece.{setup_of}
 use Rattle.session_core.specs.Silence.{peer_of}
 use Rattle.session_core.specs.Talk.{Talk, stage_of}
-use Rattle.telling.specs.Pushes.{pushed_of}
+use Rattle.pushed_keys.specs.Pushes.{pushed_of}
+use Rattle.pushed_keys.specs.declared.pushed.Pushed.{Pushed}
 use Rattle.telling.specs.Telling.{Told as WasTold, asked, told_after, turn_text, untold}
-use Rattle.telling.specs.declared.pushed.Pushed.{Pushed}
 use Rattle.fleet_core.specs.declared.step.Step.{Step}
 use Rattle.fleet_core.specs.declared.step.Step.TheVariants.{Connect, Bytes, Lost, Clear, AddFilter}
 use Rattle.fleet_core.specs.declared.step.Step.TheVariants.{DropFilter, Moment, Told}

@@ -11,9 +11,10 @@ ghost use Rattle.telling.specs.Telling.{asked, untold};
 ghost use Rattle.fleet_core.specs.Feeding.{Feeds, IsAfter, Tells};
 
 use agg_types::{Config, Items, Key, NoMemory, Whats};
+use pushed_keys::Pushed;
 use session_core::{Batch, Session, SessionCause};
 use std::alloc::Global;
-use telling::{Pushed, Teller};
+use telling::Teller;
 
 /// An open connection: its session, the number of its seat's next event, if it has a seat, and what
 /// it was told of the pushed tables. The seat has the connection's number.

@@ -9,9 +9,10 @@ ghost use Rattle.fleet_core.specs.Links.{found, HasNumbers, next_seq_at};
 
 use crate::connection::{Connection, Outcome};
 use agg_types::{Config, Key, NoMemory};
+use pushed_keys::Pushed;
 use std::alloc::Global;
 use std::collections::BTreeMap;
-use telling::{Pushed, Teller};
+use telling::Teller;
 
 /// The open connections, by number.
 pub type Connections = BTreeMap<u64, Connection>;

@@ -25,11 +25,12 @@ use crate::sets::sets_of;
 use crate::waiting::Waiting;
 use crate::{Book, FleetFault, Replies, Step};
 use agg_types::{Config, Items, LAST_SEAT, NUMBERS_END, NoMemory, What, Whats};
+use pushed_keys::pushed_of;
 use session_core::SessionCause;
 use std::alloc::Global;
 use std::collections::BTreeMap;
 use std::marker::Model;
-use telling::{Teller, pushed_of};
+use telling::Teller;
 
 /// A collector in one thread: the connections of its peers, and the book of what they push.
 ///

@@ -6,8 +6,8 @@ ghost use Rattle.fleet_core.specs.Telling.{sets_of};
 use crate::Book;
 use agg_types::{Key, NoMemory};
 use book::keys_named;
+use pushed_keys::Pushed;
 use std::alloc::Global;
-use telling::Pushed;
 
 /// The keys that the filters of the pushed tables hold at the book's moment, in the order of the
 /// tables; none where there is no filter of a name.

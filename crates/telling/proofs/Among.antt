@@ -1,7 +1,7 @@
 -- Marks among marks.
 use Rattle.std.proofs.Common.{ℕ, List, [], ◌∷◌, inl, inr, refl}
+use Rattle.pushed_keys.specs.declared.told.Mark.{Mark}
 use Rattle.telling.specs.Among.{AllMarks, IsMarkOf}
-use Rattle.telling.specs.declared.told.Mark.{Mark}
 
 pub all_weaker : (P Q : List ℕ → ℕ → Type 0) → ((key : List ℕ) (put : ℕ) → P key put → Q key put)
     → (marks : List Mark) → AllMarks P marks → AllMarks Q marks

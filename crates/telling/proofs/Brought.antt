@@ -13,16 +13,17 @@ use Rattle.std.specs.declared.cmp.Ordering.TheVariants.{Less, Equal, Greater}
 use Rattle.std.proofs.lemmas.Bool.{cases_Bool}
 use Rattle.std.proofs.lemmas.Bool.Decides.{nat_tests}
 use Rattle.std.proofs.lemmas.Map.Lookups.{exact_bytes}
-use Rattle.telling.specs.declared.change.Turn.{Turn}
-use Rattle.telling.specs.declared.pushed.Pushed.{Pushed}
-use Rattle.telling.specs.declared.told.Mark.{Mark}
-use Rattle.telling.specs.declared.told.ToldTable.{ToldTable}
+use Rattle.pushed_keys.specs.declared.change.Turn.{Turn}
+use Rattle.pushed_keys.specs.declared.pushed.Pushed.{Pushed}
+use Rattle.pushed_keys.specs.declared.told.Mark.{Mark}
+use Rattle.pushed_keys.specs.declared.told.ToldTable.{ToldTable}
+use Rattle.pushed_keys.specs.Rules.{is_due, is_told, is_written, put_after}
+use Rattle.pushed_keys.specs.Stands.{Stand, in_set, by_order, only_told, placed, stands}
+use Rattle.pushed_keys.specs.Turns.{marks_after, no_table}
 use Rattle.telling.specs.Among.{AllMarks, IsAmong, IsMarked}
-use Rattle.telling.specs.Rules.{is_due, is_told, is_written, put_after}
-use Rattle.telling.specs.Stands.{Stand, in_set, by_order, only_told, placed, stands}
-use Rattle.telling.specs.Telling.{TableTurn, keys_told, marks_after, table_at, table_turn}
-use Rattle.telling.specs.Telling.{table_turns, told_after, told_keys, turn_at}
-use Rattle.telling.specs.Told.{Told, no_table}
+use Rattle.telling.specs.Telling.{TableTurn, keys_told, table_at, table_turn, table_turns}
+use Rattle.telling.specs.Telling.{told_after, told_keys, turn_at}
+use Rattle.telling.specs.Told.{Told}
 
 -- the keys that are told of these keys behind a turn
 abbrev pub told_of : Pushed → Turn → List Stand → List (List ℕ)

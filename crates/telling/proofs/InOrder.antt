@@ -9,16 +9,17 @@ use Rattle.std.specs.Prelude.{Bool, option_to_list, slice_index_or}
 use Rattle.std.specs.declared.cmp.Ordering.{Ordering}
 use Rattle.std.specs.declared.cmp.Ordering.TheVariants.{Less, Equal, Greater}
 use Rattle.std.proofs.lemmas.Map.Lookups.{exact_bytes}
-use Rattle.telling.specs.Moves.{AreInOrder, AreOrdered, marked}
-use Rattle.telling.specs.Rules.{put_after}
-use Rattle.telling.specs.Stands.{Stand, by_order, in_set, only_told, placed, stands}
-use Rattle.telling.specs.Telling.{marks_after, table_at, told_after, turn_at}
+use Rattle.pushed_keys.specs.Moves.{AreInOrder, marked}
+use Rattle.pushed_keys.specs.Rules.{put_after}
+use Rattle.pushed_keys.specs.Stands.{Stand, by_order, in_set, only_told, placed, stands}
+use Rattle.pushed_keys.specs.Turns.{marks_after}
+use Rattle.pushed_keys.specs.declared.change.Turn.{Turn}
+use Rattle.pushed_keys.specs.declared.pushed.Pushed.{Pushed}
+use Rattle.pushed_keys.specs.declared.told.Mark.{Mark}
+use Rattle.pushed_keys.proofs.Order.{Each, IsBelow, below_above, each_above}
+use Rattle.telling.specs.Telling.{AreOrdered, table_at, told_after, turn_at}
 use Rattle.telling.specs.Told.{Told, untold}
-use Rattle.telling.specs.declared.change.Turn.{Turn}
-use Rattle.telling.specs.declared.pushed.Pushed.{Pushed}
-use Rattle.telling.specs.declared.told.Mark.{Mark}
 use Rattle.telling.proofs.Brought.{marks_at}
-use Rattle.telling.proofs.Order.{Each, IsBelow, below_above, each_above}
 
 -- ---- the keys that stand side by side
 

@@ -6,13 +6,13 @@ use Rattle.std.specs.Cmp.Lexicographic.{slice_cmp}
 use Rattle.std.specs.Ordering.{nat_cmp}
 use Rattle.std.specs.declared.cmp.Ordering.{Ordering}
 use Rattle.std.specs.declared.cmp.Ordering.TheVariants.{Less, Equal, Greater}
-use Rattle.telling.specs.declared.change.Turn.{Turn}
-use Rattle.telling.specs.declared.pushed.Pushed.{Pushed}
-use Rattle.telling.specs.declared.told.Mark.{Mark}
-use Rattle.telling.specs.Moves.{marked, set_of}
-use Rattle.telling.specs.Rules.{is_told, is_written, put_after}
-use Rattle.telling.specs.Stands.{Stand, in_set, by_order, only_told, placed, stands}
-use Rattle.telling.specs.Telling.{marks_after}
+use Rattle.pushed_keys.specs.declared.change.Turn.{Turn}
+use Rattle.pushed_keys.specs.declared.pushed.Pushed.{Pushed}
+use Rattle.pushed_keys.specs.declared.told.Mark.{Mark}
+use Rattle.pushed_keys.specs.Moves.{marked, set_of}
+use Rattle.pushed_keys.specs.Rules.{is_told, is_written, put_after}
+use Rattle.pushed_keys.specs.Stands.{Stand, in_set, by_order, only_told, placed, stands}
+use Rattle.pushed_keys.specs.Turns.{marks_after}
 use Rattle.telling.proofs.Brought.{left_mark}
 
 -- ---- which keys have marks, without a hold

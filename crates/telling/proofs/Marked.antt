@@ -5,14 +5,14 @@ use Rattle.std.specs.Cmp.Lexicographic.{slice_cmp}
 use Rattle.std.specs.Ordering.{nat_cmp}
 use Rattle.std.specs.declared.cmp.Ordering.{Ordering}
 use Rattle.std.specs.declared.cmp.Ordering.TheVariants.{Less, Equal, Greater}
+use Rattle.pushed_keys.specs.Moves.{marked}
+use Rattle.pushed_keys.specs.Rules.{is_told, put_after}
+use Rattle.pushed_keys.specs.Stands.{Stand, by_order, in_set, only_told, placed, stands}
+use Rattle.pushed_keys.specs.Turns.{marks_after}
+use Rattle.pushed_keys.specs.declared.change.Turn.{Turn}
+use Rattle.pushed_keys.specs.declared.pushed.Pushed.{Pushed}
+use Rattle.pushed_keys.specs.declared.told.Mark.{Mark}
 use Rattle.telling.specs.Among.{IsAmong, IsMarked}
-use Rattle.telling.specs.Moves.{marked}
-use Rattle.telling.specs.Rules.{is_told, put_after}
-use Rattle.telling.specs.Stands.{Stand, by_order, in_set, only_told, placed, stands}
-use Rattle.telling.specs.Telling.{marks_after}
-use Rattle.telling.specs.declared.change.Turn.{Turn}
-use Rattle.telling.specs.declared.pushed.Pushed.{Pushed}
-use Rattle.telling.specs.declared.told.Mark.{Mark}
 use Rattle.telling.proofs.Brought.{left_mark}
 use Rattle.telling.proofs.Kept.{in_marked}
 

@@ -1,9 +1,8 @@
 -- What is left of a turn, message by message.
-use Rattle.std.proofs.Common.{◌≡◌, ◌≢◌, ℕ, zero, suc, ◌+◌, ◌-◌, ◌≤◌, ◌<◌, ◌%◌, ◌^◌, Bool, true}
+use Rattle.std.proofs.Common.{◌≡◌, ◌≢◌, ℕ, zero, suc, ◌+◌, ◌-◌, ◌≤◌, ◌<◌, Bool, true}
 use Rattle.std.proofs.Common.{false, List, [], ◌∷◌, ◌++◌, length, take, drop, None, Some, inl, inr}
 use Rattle.std.proofs.Common.{refl, ap, sym, subst, ◌∙◌, arith, append_assoc, append-nil}
 use Rattle.std.proofs.Common.{length-drop}
-use Rattle.std.proofs.Math.Nat.{mod-add-mod}
 use Rattle.std.proofs.lemmas.Bool.Decides.{nat_tests}
 use Rattle.std.proofs.lemmas.List.{drop-drop, drop_all}
 use Rattle.std.proofs.lemmas.List.Concat.{flat_map-append}
@@ -11,30 +10,21 @@ use Rattle.std.specs.Prelude.{◌==◌, if◌then◌else◌, Option, MatchOption
 use Rattle.peers_msg.specs.Spelling.{message_spelling}
 use Rattle.peers_msg.specs.declared.message.Message.{Message}
 use Rattle.peers_msg.specs.declared.message.Message.TheVariants as messages
-use Rattle.telling.specs.Down.{ArePast, AreSaid, IsFirstLeft, IsFurther, IsNext, behind}
-use Rattle.telling.specs.Down.{next_message, one_said}
-use Rattle.telling.specs.Telling.{defined_after, define_unless, definition_of, definitions}
-use Rattle.telling.specs.Telling.{last_after, next_id, text_of, update_of, updates}
-use Rattle.telling.specs.Telling.{with_definition}
+use Rattle.pushed_keys.specs.Turns.{AreSaid, next_id}
+use Rattle.pushed_keys.specs.declared.change.Change.{Change}
+use Rattle.pushed_keys.specs.declared.pushed.Pushed.{Pushed}
+use Rattle.pushed_keys.specs.declared.told.UnsaidTable.{UnsaidTable}
+use Rattle.telling.specs.Down.{ArePast, IsFirstLeft, IsFurther, IsNext, behind, next_message}
+use Rattle.telling.specs.Down.{one_said}
+use Rattle.telling.specs.Telling.{defined_after, define_unless, definition_of, definitions, text_of}
+use Rattle.telling.specs.Telling.{update_of, updates, with_definition}
 use Rattle.telling.specs.Unsaid.{IsPiece, IsSaid, Unsaid, undefined_from, unsaid_messages}
 use Rattle.telling.specs.Unsaid.{unsaid_updates}
-use Rattle.telling.specs.declared.change.Change.{Change}
-use Rattle.telling.specs.declared.pushed.Pushed.{Pushed}
 use Rattle.telling.specs.declared.unsaid.Found.{Found}
 use Rattle.telling.specs.declared.unsaid.Step.{Step}
-use Rattle.telling.specs.declared.unsaid.UnsaidTable.{UnsaidTable}
 
 pub text_append : (ms ns : List Message) → text_of (ms ++ ns) ≡ text_of ms ++ text_of ns
 text_append ms ns = flat_map-append message_spelling ms ns
-
--- the last id behind changes, by how many they are
-pub last_counts : (last : ℕ) (cs : List (List ℕ × Change)) → last < 2 ^ 32
-    → last_after last cs ≡ (last + length cs) % 2 ^ 32
-last_counts last [] small = omega arith
-last_counts last (c ∷ cs) small =
-    last_counts (next_id last) cs (omega arith) ∙ mod-add-mod (last + 1) (2 ^ 32) (length cs)
-    ∙ ap (λ (n : ℕ). n % 2 ^ 32)
-    (let s : (last + 1) + length cs ≡ last + length (c ∷ cs) = omega arith in s)
 
 -- ---- tables of which nothing is left
 
@@ -48,7 +38,7 @@ pass_one d b (p ∷ ps) t ts none =
     ap (λ (cs : List (List ℕ × Change)). with_definition d (b + 1) p (updates p t.last cs)
     ++ unsaid_updates (defined_after d (b + 1) (updates p t.last cs)) (b + 1) ps ts) none
 
-none_left : (d b : ℕ) (ps : List Pushed) (ts : List UnsaidTable) → AreSaid ts
+pub none_left : (d b : ℕ) (ps : List Pushed) (ts : List UnsaidTable) → AreSaid ts
     → unsaid_updates d b ps ts ≡ []
 unfolding unsaid_updates
 none_left d b [] ts h = refl

@@ -1,36 +1,43 @@
 -- A whole turn.
 use Rattle.std.proofs.Common.{◌≡◌, ℕ, true, false, List, [], ◌++◌, map, refl, sym, ap, ◌∙◌}
 use Rattle.std.specs.Prelude.{slice_get, None, Some}
-use Rattle.telling.specs.declared.told.Mark.{Mark}
 use Rattle.peers_msg.specs.declared.message.Message.{Message}
-use Rattle.telling.specs.Down.{defined_behind, unsaid_tables}
+use Rattle.pushed_keys.specs.Turns.{ChangesNothing, told_tables, unsaid_tables}
+use Rattle.pushed_keys.specs.declared.change.Turn.{Turn}
+use Rattle.pushed_keys.specs.declared.pushed.Pushed.{Pushed}
+use Rattle.pushed_keys.specs.declared.told.Mark.{Mark}
+use Rattle.pushed_keys.specs.declared.told.ToldTable.{ToldTable}
+use Rattle.pushed_keys.specs.declared.told.UnsaidTable.{UnsaidTable}
+use Rattle.telling.specs.Down.{defined_behind}
 use Rattle.telling.specs.Unsaid.{unsaid_updates}
-use Rattle.telling.specs.Telling.{keys_told, table_at, told_keys, turn_messages}
-use Rattle.telling.specs.Telling.{Told, defined_before, first_definitions, last_defined, text_of}
-use Rattle.telling.specs.Telling.{told_after, turn_at, turn_text}
-use Rattle.telling.specs.Telling.{turns, update_messages, table_turns}
-use Rattle.telling.specs.declared.pushed.Pushed.{Pushed}
-use Rattle.telling.specs.declared.change.Turn.{Turn}
-use Rattle.telling.specs.declared.told.ToldTable.{ToldTable}
-use Rattle.telling.specs.declared.unsaid.UnsaidTable.{UnsaidTable}
-use Rattle.telling.proofs.Turns.{defined_are, updates_are}
+use Rattle.telling.specs.Telling.{keys_told, table_at, told_keys, turn_messages, Told}
+use Rattle.telling.specs.Telling.{defined_before, first_definitions, last_defined, text_of}
+use Rattle.telling.specs.Telling.{told_after, turn_at, turn_text, turns, update_messages}
+use Rattle.telling.specs.Telling.{table_turns}
+use Rattle.telling.proofs.Steps.{none_left}
+use Rattle.telling.proofs.Turns.{defined_are, last_stays, told_are, updates_are}
 
 pub quiet_messages : (pushed : List Pushed) (sets : List (List (List ℕ))) (now : ℕ)
     (told : Told) (turn : Turn) (tables : List ToldTable) → turn ≡ turn_at now told
-    → tables ≡ told.tables → told.begun ≡ true
-    → update_messages told.defined (table_turns turn sets tables 0 pushed) ≡ []
+    → tables ≡ told.tables → told.begun ≡ true → ChangesNothing turn sets tables pushed
     → turn_messages pushed sets now told ≡ []
-quiet_messages pushed sets now told turn tables t ts b e =
-    rw (b, ← t, ← ts, e) refl
+quiet_messages pushed sets now told turn tables t ts b q =
+    let none : update_messages told.defined (table_turns turn sets tables 0 pushed) ≡ [] =
+    sym (updates_are turn sets tables told.defined 0 pushed)
+    ∙ none_left told.defined 0 pushed (unsaid_tables turn sets tables 0 pushed) q.silent in
+    rw (b, ← t, ← ts, none) refl
 
 pub quiet_told : (pushed : List Pushed) (sets : List (List (List ℕ))) (now : ℕ) (told : Told)
     (turn : Turn) (tables : List ToldTable) → turn ≡ turn_at now told → tables ≡ told.tables
-    → told.begun ≡ true → told.anew ≡ false
-    → last_defined told.defined (table_turns turn sets tables 0 pushed) ≡ told.defined
-    → map (λ table. table.after) (table_turns turn sets tables 0 pushed) ≡ tables
+    → told.begun ≡ true → told.anew ≡ false → ChangesNothing turn sets tables pushed
     → told_after pushed sets now told ≡ told
 unfolding told_after
-quiet_told pushed sets now told turn tables t ts b a d m =
+quiet_told pushed sets now told turn tables t ts b a q =
+    let d : last_defined told.defined (table_turns turn sets tables 0 pushed) ≡ told.defined =
+    sym (defined_are turn sets tables told.defined 0 pushed)
+    ∙ last_stays told.defined 0 (unsaid_tables turn sets tables 0 pushed) q.silent in
+    let m : map (λ table. table.after) (table_turns turn sets tables 0 pushed) ≡ tables =
+    sym (told_are turn sets tables 0 pushed) ∙ q.same in
     let tables_are : map (λ table. table.after) (turns pushed sets now told) ≡ told.tables =
     rw (← t, ← ts) m in
     let defined_is : last_defined (defined_before pushed told) (turns pushed sets now told)
@@ -67,14 +74,15 @@ pub whole_told : (pushed : List Pushed) (sets : List (List (List ℕ))) (now : �
     (turn : Turn) (tables after : List ToldTable) (unsaid : List UnsaidTable) (last : ℕ)
     → turn ≡ turn_at now told → tables ≡ told.tables
     → unsaid ≡ unsaid_tables turn sets tables 0 pushed
-    → after ≡ map (λ table. table.after) (table_turns turn sets tables 0 pushed)
+    → after ≡ told_tables turn sets tables 0 pushed
     → last ≡ defined_behind (defined_before pushed told) 0 unsaid
     → record { tables = after; defined = last; begun = true; anew = false }
     ≡ told_after pushed sets now told
 unfolding told_after
 whole_told pushed sets now told turn tables after unsaid last t ts u a l =
     let tables_are : after ≡ map (λ table. table.after) (turns pushed sets now told) =
-    a ∙ (λ i. map (λ table. table.after) (table_turns (t i) sets (ts i) 0 pushed)) in
+    a ∙ told_are turn sets tables 0 pushed
+    ∙ (λ i. map (λ table. table.after) (table_turns (t i) sets (ts i) 0 pushed)) in
     let last_is : last ≡ last_defined (defined_before pushed told) (turns pushed sets now told) =
     l ∙ ap (defined_behind (defined_before pushed told) 0) u
     ∙ defined_are turn sets tables (defined_before pushed told) 0 pushed

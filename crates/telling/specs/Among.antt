@@ -1,8 +1,8 @@
 -- Keys among keys, and what marks say of them.
 use Rattle.std.specs.Prelude.{◌≡◌, ◌⊎◌, ℕ, true, List, [], ◌∷◌}
-use Rattle.telling.specs.Rules.{is_told}
-use Rattle.telling.specs.declared.pushed.Pushed.{Pushed}
-use Rattle.telling.specs.declared.told.Mark.{Mark}
+use Rattle.pushed_keys.specs.Rules.{is_told}
+use Rattle.pushed_keys.specs.declared.pushed.Pushed.{Pushed}
+use Rattle.pushed_keys.specs.declared.told.Mark.{Mark}
 
 -- a key is one of these
 abbrev pub IsAmong : List ℕ → List (List ℕ) → Type 0

@@ -1,44 +1,23 @@
--- What a turn takes down, and how it is written, message by message.
+-- How what a turn took down is written, message by message.
 use Rattle.std.specs.Prelude.{◌≡◌, ◌↔◌, ◌≤◌, ◌-◌, ◌+◌, ◌==◌, if◌then◌else◌, ℕ, List, [], ◌∷◌, ◌++◌}
-use Rattle.std.specs.Prelude.{Bool, true, false, length, drop, slice_index_or}
-use Rattle.std.specs.List.{AllByRecursion}
+use Rattle.std.specs.Prelude.{Bool, true, false, length, drop}
 use Rattle.peers_msg.specs.Spelling.{message_spelling}
 use Rattle.peers_msg.specs.declared.message.Message.{Message}
 use Rattle.peers_msg.specs.declared.message.Message.TheVariants as messages
-use Rattle.telling.specs.Stands.{stands}
-use Rattle.telling.specs.Told.{no_table}
-use Rattle.telling.specs.Telling.{changes, definition_of, next_id, update_of}
+use Rattle.pushed_keys.specs.Turns.{AreSaid, next_id}
+use Rattle.pushed_keys.specs.declared.pushed.Pushed.{Pushed}
+use Rattle.pushed_keys.specs.declared.told.UnsaidTable.{UnsaidTable}
+use Rattle.telling.specs.Telling.{definition_of, update_of}
 use Rattle.telling.specs.Unsaid.{Unsaid, unsaid_messages, unsaid_updates}
-use Rattle.telling.specs.declared.change.Turn.{Turn}
-use Rattle.telling.specs.declared.pushed.Pushed.{Pushed}
-use Rattle.telling.specs.declared.told.ToldTable.{ToldTable}
 use Rattle.telling.specs.declared.unsaid.Found.{Found}
 use Rattle.telling.specs.declared.unsaid.Step.{Step}
 use Rattle.telling.specs.declared.unsaid.TheConstants.{PIECE}
-use Rattle.telling.specs.declared.unsaid.UnsaidTable.{UnsaidTable}
-
--- what a turn takes down of a table, whose filter has this set
-unfoldable pub unsaid_table : Turn → Pushed → List (List ℕ) → ToldTable → UnsaidTable
-unsaid_table turn pushed set told =
-    record { last = told.last; changes = changes pushed turn (stands set told.marks) }
-
--- what it takes down of these tables, the first of which stands behind so many others
-unfoldable pub unsaid_tables : Turn → List (List (List ℕ)) → List ToldTable → ℕ → List Pushed
-    → List UnsaidTable
-unsaid_tables turn sets told before [] = []
-unsaid_tables turn sets told before (pushed ∷ others) =
-    unsaid_table turn pushed (slice_index_or sets before []) (slice_index_or told before no_table)
-    ∷ unsaid_tables turn sets told (before + 1) others
 
 -- the table that is defined last behind these
 abbrev pub defined_behind : ℕ → ℕ → List UnsaidTable → ℕ
 defined_behind defined before [] = defined
 defined_behind defined before (table ∷ tables) =
     defined_behind (if length table.changes == 0 then defined else before + 1) (before + 1) tables
-
--- nothing is left of these tables
-abbrev pub AreSaid : List UnsaidTable → Type 0
-AreSaid tables = AllByRecursion (λ table. table.changes ≡ []) tables
 
 -- nothing is left of the tables between two places
 pub record ArePast (place to : ℕ) (tables : List UnsaidTable) : Type 0 where

@@ -1,12 +1,5 @@
-pub mod Packed
-pub mod Changed
-pub mod Rules
-pub mod Stands
 pub mod Told
 pub mod Telling
-pub mod Pushes
 pub mod Among
-pub mod Moves
-pub mod Passed
 pub mod Unsaid
 pub mod Down

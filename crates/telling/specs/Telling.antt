@@ -1,9 +1,9 @@
 -- What a turn writes, as messages, and what was told behind it. The tables are numbered from 1.
-use Rattle.std.specs.Prelude.{◌≡◌, ℕ, ◌+◌, ◌%◌, ◌^◌, true, false, ◌==◌, if◌then◌else◌}
+use Rattle.std.specs.Prelude.{◌≡◌, ℕ, ◌+◌, true, false, ◌==◌, if◌then◌else◌}
 use Rattle.std.specs.Prelude.{List, [], ◌∷◌, ◌++◌, length, map, filter, slice_index_or, min}
-use Rattle.std.specs.Prelude.{Some, option_to_list, slice_get}
+use Rattle.std.specs.Prelude.{Some, slice_get}
 use Rattle.std.specs.List.{flat_map}
-use Rattle.std.specs.Option.{option_map, option_map_or}
+use Rattle.std.specs.Option.{option_map_or}
 use Rattle.agg_types.specs.Kind.{kind_length, kind_number}
 use Rattle.agg_types.specs.declared.config.KeyKind.{KeyKind}
 use Rattle.agg_types.specs.declared.kind.KeyLength.{KeyLength}
@@ -13,16 +13,17 @@ use Rattle.peers_msg.specs.Spelling.{integer_spelling, message_spelling}
 use Rattle.peers_msg.specs.declared.message.Definition.{Definition}
 use Rattle.peers_msg.specs.declared.message.Message.{Message}
 use Rattle.peers_msg.specs.declared.message.Message.TheVariants as messages
-use Rattle.telling.specs.Rules.{change_of, is_told, put_after}
-use Rattle.telling.specs.Stands.{Stand, stands}
-use Rattle.telling.specs.Told.{no_table}
+use Rattle.pushed_keys.specs.Moves.{AreInOrder, marked}
+use Rattle.pushed_keys.specs.Rules.{is_told}
+use Rattle.pushed_keys.specs.Stands.{stands}
+use Rattle.pushed_keys.specs.Turns.{changes, next_id, no_table, told_table}
+use Rattle.pushed_keys.specs.declared.change.Change.{Change}
+use Rattle.pushed_keys.specs.declared.change.Change.TheVariants.{Put, TakeAway}
+use Rattle.pushed_keys.specs.declared.change.Turn.{Turn}
+use Rattle.pushed_keys.specs.declared.pushed.Pushed.{Pushed}
+use Rattle.pushed_keys.specs.declared.told.Mark.{Mark}
+use Rattle.pushed_keys.specs.declared.told.ToldTable.{ToldTable}
 pub use Rattle.telling.specs.Told.{Told, untold, asked}
-use Rattle.telling.specs.declared.change.Change.{Change}
-use Rattle.telling.specs.declared.change.Change.TheVariants.{Put, TakeAway}
-use Rattle.telling.specs.declared.change.Turn.{Turn}
-use Rattle.telling.specs.declared.pushed.Pushed.{Pushed}
-use Rattle.telling.specs.declared.told.Mark.{Mark}
-use Rattle.telling.specs.declared.told.ToldTable.{ToldTable}
 
 -- a length of keys in a definition, in bytes; where keys differ in length, it counts one more
 abbrev pub length_told : KeyLength → ℕ
@@ -53,6 +54,7 @@ definition_of id pushed =
       bits = 4;
       expiry = pushed.life;
       periods = [];
+      arrays = [];
     }
 
 -- a put has the table's life and gpc0 1, a take-away a life of 1 ms and gpc0 0
@@ -62,49 +64,11 @@ update_of pushed id key Put =
 update_of pushed id key TakeAway =
     messages.Update (Some id) (Some 1) (key_spelling pushed.kind key ++ 0 ∷ [])
 
--- what a turn writes of a key, if it writes of it
-abbrev pub key_change : Pushed → Turn → Stand → List (List ℕ × Change)
-key_change pushed turn stand =
-    option_to_list (option_map (λ change. (stand.key, change))
-    (change_of pushed turn stand.is_in stand.put))
-
--- the changes of these keys, in order
-abbrev pub changes : Pushed → Turn → List Stand → List (List ℕ × Change)
-changes pushed turn = flat_map (key_change pushed turn)
-
--- the mark of a key behind a turn, if it has one
-abbrev pub key_mark : Pushed → Turn → Stand → List Mark
-key_mark pushed turn stand =
-    option_to_list (option_map (λ put. record {
-      key = stand.key;
-      put = put;
-      is_in = stand.is_in;
-    }) (put_after pushed turn stand.is_in stand.put))
-
--- the marks of these keys behind a turn, in order
-abbrev pub marks_after : Pushed → Turn → List Stand → List Mark
-marks_after pushed turn = flat_map (key_mark pushed turn)
-
--- a turn writes nothing of these keys and leaves their marks as they were
-pub record AreQuiet (pushed : Pushed) (turn : Turn) (keys : List Stand) (marks : List Mark)
-    : Type 0 where
-  pub silent : changes pushed turn keys ≡ []
-  pub same : marks_after pushed turn keys ≡ marks
-
--- update ids count on by one
-abbrev pub next_id : ℕ → ℕ
-next_id last = (last + 1) % 2 ^ 32
-
 -- the updates of these changes, numbered behind the last id
 abbrev pub updates : Pushed → ℕ → List (List ℕ × Change) → List Message
 updates pushed last [] = []
 updates pushed last (change ∷ others) =
     update_of pushed (next_id last) change.0 change.1 ∷ updates pushed (next_id last) others
-
--- the last id behind them
-abbrev pub last_after : ℕ → List (List ℕ × Change) → ℕ
-last_after last [] = last
-last_after last (change ∷ others) = last_after (next_id last) others
 
 -- what a turn says of a table: its id, its updates, and what was told of it behind them
 pub record TableTurn : Type 0 where
@@ -116,16 +80,11 @@ pub record TableTurn : Type 0 where
 -- what a turn says of a table, whose filter has this set
 unfoldable pub table_turn : Turn → ℕ → Pushed → List (List ℕ) → ToldTable → TableTurn
 table_turn turn id pushed set told =
-    let standing : List Stand = stands set told.marks in
-    let changed : List (List ℕ × Change) = changes pushed turn standing in
     record {
       id = id;
       pushed = pushed;
-      updates = updates pushed told.last changed;
-      after = record {
-        last = last_after told.last changed;
-        marks = marks_after pushed turn standing;
-      };
+      updates = updates pushed told.last (changes pushed turn (stands set told.marks));
+      after = told_table turn pushed set told;
     }
 
 -- what a turn says of these tables, the first of which stands behind so many others
@@ -214,6 +173,11 @@ told_after pushed sets now told =
 -- a table of what was told, by its place
 abbrev pub table_at : Told → ℕ → ToldTable
 table_at told place = slice_index_or told.tables place no_table
+
+-- the marks of each pushed table, by its place, are in order
+abbrev pub AreOrdered : List Pushed → Told → Type 0
+AreOrdered pushed told = (place : ℕ) (table : Pushed) → slice_get pushed place ≡ Some table
+    → AreInOrder (marked (table_at told place).marks)
 
 -- the keys that these marks tell at a moment: those that were put and not taken away, and whose
 -- life hasn't gone by

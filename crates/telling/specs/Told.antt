@@ -1,6 +1,6 @@
 -- What one connection was told.
 use Rattle.std.specs.Prelude.{ℕ, Bool, true, false, List, []}
-use Rattle.telling.specs.declared.told.ToldTable.{ToldTable}
+use Rattle.pushed_keys.specs.declared.told.ToldTable.{ToldTable}
 
 -- what was told of each pushed table; the table that was defined last, 0 for none; whether the
 -- first turn was made; and whether the next one puts every key of the sets anew
@@ -18,7 +18,3 @@ untold = record { tables = []; defined = 0; begun = false; anew = false }
 abbrev pub asked : Told → Told
 asked told =
     record { tables = told.tables; defined = told.defined; begun = told.begun; anew = true }
-
--- a table of which nothing was told
-abbrev pub no_table : ToldTable
-no_table = record { last = 0; marks = [] }

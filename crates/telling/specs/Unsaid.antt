@@ -3,9 +3,9 @@ use Rattle.std.specs.Prelude.{◌≡◌, ◌≢◌, ◌⊎◌, ◌<◌, ◌≤�
 use Rattle.std.specs.Prelude.{take, drop, Option, None, Some}
 use Rattle.std.specs.List.{AllByRecursion}
 use Rattle.peers_msg.specs.declared.message.Message.{Message}
+use Rattle.pushed_keys.specs.declared.pushed.Pushed.{Pushed}
+use Rattle.pushed_keys.specs.declared.told.UnsaidTable.{UnsaidTable}
 use Rattle.telling.specs.Telling.{defined_after, definitions, text_of, updates, with_definition}
-use Rattle.telling.specs.declared.pushed.Pushed.{Pushed}
-use Rattle.telling.specs.declared.unsaid.UnsaidTable.{UnsaidTable}
 use Rattle.telling.specs.declared.unsaid.TheConstants.{PIECE}
 
 -- of the definitions that the first turn begins with, the place of the first that is left; and the

@@ -7,11 +7,11 @@ ghost use Rattle.peers_msg.specs.Spelling.{payload_spelling};
 ghost use Rattle.peers_msg.specs.declared.message.Message.TheVariants.{Define};
 ghost use Rattle.telling.specs.Telling.{definition_of, key_length, key_spelling, update_of};
 
-use crate::{Change, Pushed};
 use agg_types::limits::LONGEST_KEY;
 use agg_types::{Col, KeyKind, KeyLength, NoMemory};
 use peers_msg::kinds::{TABLE_CLASS, TABLE_DEFINITION, TIMED_UPDATE};
 use peers_msg::put_int;
+use pushed_keys::{Change, Pushed};
 use std::alloc::Global;
 
 // The life of a key that is taken away, in ms.

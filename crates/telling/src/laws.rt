@@ -3,10 +3,10 @@
 
 ghost use Rattle.std.specs.Prelude.{◌≡◌, ◌⊎◌, ◌<◌, ℕ, List};
 ghost use Rattle.std.specs.Prelude.{[], Some, false, slice_get, slice_index_or};
+ghost use Rattle.pushed_keys.specs.Moves.{marked, set_of};
+ghost use Rattle.pushed_keys.specs.declared.pushed.Pushed.{Pushed};
 ghost use Rattle.telling.specs.Among.{AllMarks, IsAmong, IsMarked, IsMarkOf};
-ghost use Rattle.telling.specs.Moves.{marked, set_of};
 ghost use Rattle.telling.specs.Telling.{Told, table_at, told_after, told_keys};
-ghost use Rattle.telling.specs.declared.pushed.Pushed.{Pushed};
 
 /// Behind a turn exactly the set is told of a table without a hold, at the turn's moment.
 pub fn the_set_is_told()

@@ -1,23 +1,22 @@
 //! What one connection was told, and its turns.
 
-ghost use Rattle.std.specs.Prelude.{◌≡◌, ◌++◌, [], List, ℕ, map, true, false};
-ghost use Rattle.std.specs.Prelude.{IfOk, IsTrue, OnOk, OnErr};
-ghost use Rattle.telling.specs.Moves.{AreMovedTo};
-ghost use Rattle.telling.specs.Packed.{marks_of};
+ghost use Rattle.std.specs.Prelude.{◌≡◌, ◌++◌, ◌-◌, ◌^◌, [], List, ℕ, length, map, min, true};
+ghost use Rattle.std.specs.Prelude.{false, IfOk, IsTrue, OnOk, OnErr};
+ghost use Rattle.pushed_keys.specs.Moves.{AreMovedTo};
+ghost use Rattle.pushed_keys.specs.Packed.{marks_of};
 ghost use Rattle.telling.specs.Down.{defined_behind};
 ghost use Rattle.telling.specs.Telling.{asked, defined_before, first_definitions, turn_messages};
-ghost use Rattle.telling.specs.Telling.{keys_told, told_after, told_keys, turn_at, turn_text};
+ghost use Rattle.telling.specs.Telling.{keys_told, table_at, told_after, told_keys, turn_at};
+ghost use Rattle.telling.specs.Telling.{turn_text};
 ghost use Rattle.telling.specs.Telling.{untold};
 ghost use Rattle.telling.specs.Unsaid.{undefined_from, unsaid_messages, unsaid_updates};
 
-use crate::change::{Turn, is_told};
-use crate::idle::are_idle;
-use crate::marks::Packed;
-use crate::saying::tell_all_moved;
-use crate::turning::{are_quiet, tell_all, told_at};
-use crate::unsaid::{Unsaid, UnsaidTable, defined_behind, table_at};
-use crate::{Moved, Pushed, ToldTable};
+use crate::unsaid::{Unsaid, defined_behind, table_at};
 use agg_types::{Items, Key, NoMemory};
+use pushed_keys::{
+    Moved, Packed, Pushed, ToldTable, Turn, UnsaidTable, are_idle, are_quiet, is_told, tell_all,
+    tell_all_moved, told_at,
+};
 use std::alloc::Global;
 use std::marker::Model;
 
@@ -196,6 +195,18 @@ impl Teller {
                 let (_, marks) = told_at(self.tables.as_slice(), place);
                 keys_told(alloc, table, now, marks)
             }
+        }
+    }
+
+    /// How many keys of a pushed table, by its place, have a mark, 2^64 - 1 where there are more.
+    /// Behind a turn these are the keys that are told at its moment. 0 where there is no such
+    /// table. The number is kept, not counted.
+    pub fn count(&self, place: usize) -> u64
+        ensures { result ≡ min (length (table_at self.now place).marks) (2 ^ 64 - 1) }
+    {
+        match self.tables.as_slice().get(place) {
+            None => 0,
+            Some(table) => table.marks.len(),
         }
     }
 

@@ -5,29 +5,22 @@ ghost use Rattle.std.specs.Prelude.{drop, length, slice_get, IfOk, IfSome, IsNon
 ghost use Rattle.std.specs.Prelude.{MatchOption, OnErr, OnOk};
 ghost use Rattle.std.specs.Option.{option_copied};
 ghost use Rattle.peers_msg.specs.Spelling.{message_spelling};
-ghost use Rattle.telling.specs.Down.{AreSaid, IsFirstLeft, IsFurther, IsNext, behind};
-ghost use Rattle.telling.specs.Down.{defined_behind, next_message, one_said};
+ghost use Rattle.pushed_keys.specs.Turns.{AreSaid};
+ghost use Rattle.pushed_keys.specs.declared.pushed.Pushed.{Pushed};
+ghost use Rattle.telling.specs.Down.{IsFirstLeft, IsFurther, IsNext, behind, defined_behind};
+ghost use Rattle.telling.specs.Down.{next_message, one_said};
 ghost use Rattle.telling.specs.Telling.{definitions, text_of};
 ghost use Rattle.telling.specs.Unsaid.{IsPiece, IsSaid, undefined_from, unsaid_messages};
 ghost use Rattle.telling.specs.Unsaid.{unsaid_updates};
-ghost use Rattle.telling.specs.declared.pushed.Pushed.{Pushed};
 
-use crate::changes::Changes;
 use crate::draft::Draft;
-use crate::{Change, Pushed};
 use agg_types::NoMemory;
+use pushed_keys::{Change, Pushed, UnsaidTable};
 use std::alloc::Global;
 use std::marker::Model;
 
 /// How many bytes a piece of what a turn writes has at most, unless it is one message alone.
 pub const PIECE: usize = 65_536;
-
-/// What is still to be written of a table: the id of the update before that, and the changes.
-#[derive(Drop)]
-pub struct UnsaidTable {
-    pub last: u32,
-    pub changes: Changes,
-}
 
 /// What a turn has still to write: what it took down of each table, of which messages are made
 /// piece by piece.

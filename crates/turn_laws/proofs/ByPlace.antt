@@ -5,12 +5,12 @@ use Rattle.std.specs.Prelude.{slice_get, slice_index_or}
 use Rattle.std.specs.List.{flat_map}
 use Rattle.peers_msg.specs.Message.{reading_of}
 use Rattle.peers_msg.specs.declared.message.Message.{Message}
-use Rattle.telling.specs.Told.{no_table}
+use Rattle.pushed_keys.specs.Turns.{no_table}
+use Rattle.pushed_keys.specs.declared.change.Turn.{Turn}
+use Rattle.pushed_keys.specs.declared.pushed.Pushed.{Pushed}
+use Rattle.pushed_keys.specs.declared.told.ToldTable.{ToldTable}
 use Rattle.telling.specs.Telling.{Told, TableTurn, defined_before, first_definitions, table_turn}
 use Rattle.telling.specs.Telling.{table_turns, told_after, turn_at, turn_text}
-use Rattle.telling.specs.declared.change.Turn.{Turn}
-use Rattle.telling.specs.declared.pushed.Pushed.{Pushed}
-use Rattle.telling.specs.declared.told.ToldTable.{ToldTable}
 use Rattle.turn_laws.specs.Heard.{all_under_own, force_behind, heard, in_force, under_own}
 use Rattle.turn_laws.specs.Keys.{AreSets, IsKept}
 use Rattle.turn_laws.specs.Written.{AreTables, last_behind, messages_of, section, sections}

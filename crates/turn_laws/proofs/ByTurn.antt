@@ -2,8 +2,8 @@
 use Rattle.std.proofs.Common.{ℕ, List, [], ◌∷◌, ◌++◌, Option}
 use Rattle.peers_msg.specs.declared.message.Definition.{Definition}
 use Rattle.peers_msg.specs.declared.message.Message.{Message}
+use Rattle.pushed_keys.specs.declared.pushed.Pushed.{Pushed}
 use Rattle.telling.specs.Telling.{Told, TableTurn, defined_before, first_definitions, turns}
-use Rattle.telling.specs.declared.pushed.Pushed.{Pushed}
 use Rattle.turn_laws.specs.Heard.{under_own}
 use Rattle.turn_laws.specs.Written.{last_behind, section}
 

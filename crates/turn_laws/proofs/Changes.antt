@@ -12,15 +12,16 @@ use Rattle.std.proofs.lemmas.Bool.{cases_Bool}
 use Rattle.std.proofs.lemmas.Bool.Decides.{nat_tests}
 use Rattle.std.proofs.lemmas.Slice.Eq.{bytes_eq-Decides}
 use Rattle.peers_msg.specs.declared.message.Message.{Message}
+use Rattle.pushed_keys.specs.Rules.{change_of, is_due, is_told, is_written, put_after}
+use Rattle.pushed_keys.specs.Turns.{next_id}
+use Rattle.pushed_keys.specs.declared.change.TheConstants.{REFRESH_AHEAD}
+use Rattle.pushed_keys.specs.declared.change.Change.{Change}
+use Rattle.pushed_keys.specs.declared.change.Change.TheVariants.{Put, TakeAway}
+use Rattle.pushed_keys.specs.declared.change.Turn.{Turn}
+use Rattle.pushed_keys.specs.declared.pushed.Pushed.{Pushed}
+use Rattle.pushed_keys.specs.declared.told.Mark.{Mark}
 use Rattle.telling.specs.Among.{IsAmong, IsMarkOf, IsMarked}
-use Rattle.telling.specs.Rules.{change_of, is_due, is_told, is_written, put_after}
-use Rattle.telling.specs.Telling.{next_id, update_of, updates}
-use Rattle.telling.specs.declared.change.TheConstants.{REFRESH_AHEAD}
-use Rattle.telling.specs.declared.change.Change.{Change}
-use Rattle.telling.specs.declared.change.Change.TheVariants.{Put, TakeAway}
-use Rattle.telling.specs.declared.change.Turn.{Turn}
-use Rattle.telling.specs.declared.pushed.Pushed.{Pushed}
-use Rattle.telling.specs.declared.told.Mark.{Mark}
+use Rattle.telling.specs.Telling.{update_of, updates}
 use Rattle.turn_laws.specs.Keys.{AreInOrder, change_for, is_in, keys_of, put_of}
 use Rattle.turn_laws.specs.Written.{Has, numbered}
 use Rattle.turn_laws.proofs.Sides.{Each, IsBelow, alike, unlike}

@@ -19,7 +19,7 @@ use Rattle.agg_types.specs.declared.config.KeyKind.{KeyKind}
 use Rattle.agg_types.specs.declared.config.KeyKind.TheVariants.{Integer, Ip, Ipv6, Str, Binary}
 use Rattle.agg_types.specs.declared.config.Push.{Push}
 use Rattle.agg_types.specs.declared.config.Shape.{Shape}
-use Rattle.telling.specs.Pushes.{filter_named, life_of, pushed_as, pushed_of}
+use Rattle.pushed_keys.specs.Pushes.{filter_named, life_of, pushed_as, pushed_of}
 use Rattle.telling.specs.Telling.{key_length}
 use Rattle.turn_laws.specs.Written.{AreTables, IsTable}
 
@@ -184,9 +184,12 @@ pushed_length config (push ∷ pushes) = ap suc (pushed_length config pushes)
 pub pushed_tables : (config : Config) → all_faults config ≡ [] → AreTables (pushed_of config)
 unfolding pushed_of
 pushed_tables config e =
+    let bounded : config_faults config
+    ++ each (push_faults config.tables config.filters) [] config.pushes
+    ++ fault_if (not (rows_fit config.rows)) BadSize ≡ [] = no_left _ _ (no_left _ _ e) in
     let parts : config_faults config
     ++ each (push_faults config.tables config.filters) [] config.pushes ≡ [] =
-    no_left _ (fault_if (not (rows_fit config.rows)) BadSize) e in
+    no_left _ (fault_if (not (rows_fit config.rows)) BadSize) bounded in
     let followed : config_faults config ≡ [] =
     no_left (config_faults config)
     (each (push_faults config.tables config.filters) [] config.pushes) parts in

@@ -5,12 +5,13 @@ use Rattle.std.specs.Prelude.{slice_get, slice_index_or}
 use Rattle.std.specs.List.{enumerate_from}
 use Rattle.std.proofs.Math.Nat.{mod-add-mod}
 use Rattle.peers_msg.specs.declared.message.Message.{Message}
-use Rattle.telling.specs.Stands.{stands}
-use Rattle.telling.specs.Telling.{Told, asked, changes, last_after, next_id, table_at, told_after}
-use Rattle.telling.specs.Telling.{turn_at, untold, update_of, updates}
-use Rattle.telling.specs.declared.change.Change.{Change}
-use Rattle.telling.specs.declared.change.Change.TheVariants.{Put, TakeAway}
-use Rattle.telling.specs.declared.pushed.Pushed.{Pushed}
+use Rattle.pushed_keys.specs.Stands.{stands}
+use Rattle.pushed_keys.specs.Turns.{changes, last_after, next_id}
+use Rattle.pushed_keys.specs.declared.change.Change.{Change}
+use Rattle.pushed_keys.specs.declared.change.Change.TheVariants.{Put, TakeAway}
+use Rattle.pushed_keys.specs.declared.pushed.Pushed.{Pushed}
+use Rattle.telling.specs.Telling.{Told, asked, table_at, told_after, turn_at, untold, update_of}
+use Rattle.telling.specs.Telling.{updates}
 use Rattle.turn_laws.specs.Session.{Asked, Step, Turned, id_of, updates_behind}
 use Rattle.turn_laws.specs.Written.{updates_at}
 use Rattle.turn_laws.proofs.Places.{last_there, updates_there}

@@ -21,19 +21,19 @@ use Rattle.peers_msg.specs.declared.message.Definition.{Definition}
 use Rattle.peers_msg.specs.declared.message.Message.{Message}
 use Rattle.peers_msg.specs.declared.message.Message.TheVariants as messages
 use Rattle.peers_msg.proofs.Numerals.{number_again}
-use Rattle.telling.specs.Stands.{stands}
-use Rattle.telling.specs.Told.{no_table}
-use Rattle.telling.specs.Telling.{TableTurn, changes, definition_of, key_length, key_spelling}
-use Rattle.telling.specs.Telling.{next_id, table_turn, table_turns, update_of, updates}
-use Rattle.telling.specs.declared.change.Change.{Change}
-use Rattle.telling.specs.declared.change.Change.TheVariants.{Put, TakeAway}
-use Rattle.telling.specs.declared.change.Turn.{Turn}
-use Rattle.telling.specs.declared.pushed.Pushed.{Pushed}
-use Rattle.telling.specs.declared.told.ToldTable.{ToldTable}
-use Rattle.turn_laws.proofs.ByTurn.{turn_under_own}
+use Rattle.pushed_keys.specs.Stands.{stands}
+use Rattle.pushed_keys.specs.Turns.{no_table, changes, next_id}
+use Rattle.pushed_keys.specs.declared.change.Change.{Change}
+use Rattle.pushed_keys.specs.declared.change.Change.TheVariants.{Put, TakeAway}
+use Rattle.pushed_keys.specs.declared.change.Turn.{Turn}
+use Rattle.pushed_keys.specs.declared.pushed.Pushed.{Pushed}
+use Rattle.pushed_keys.specs.declared.told.ToldTable.{ToldTable}
+use Rattle.telling.specs.Telling.{TableTurn, definition_of, key_length, key_spelling, table_turn}
+use Rattle.telling.specs.Telling.{table_turns, update_of, updates}
 use Rattle.turn_laws.specs.Keys.{AreInOrder, AreShort, change_for}
 use Rattle.turn_laws.specs.Receiver.{Entry, entries_after, entry_of, key_and_count, newest}
 use Rattle.turn_laws.specs.Receiver.{with_count}
+use Rattle.turn_laws.proofs.ByTurn.{turn_under_own}
 use Rattle.turn_laws.proofs.Sides.{Each, IsBelow, alike, not_changed}
 
 -- ---- one update

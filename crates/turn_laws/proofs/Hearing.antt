@@ -9,16 +9,17 @@ use Rattle.std.specs.Option.{option_map}
 use Rattle.peers_msg.specs.declared.message.Definition.{Definition}
 use Rattle.peers_msg.specs.declared.message.Message.{Message}
 use Rattle.peers_msg.specs.declared.message.Message.TheVariants as messages
-use Rattle.telling.specs.Stands.{stands}
+use Rattle.pushed_keys.specs.Stands.{stands}
+use Rattle.pushed_keys.specs.Turns.{changes, next_id}
+use Rattle.pushed_keys.specs.declared.change.Change.{Change}
+use Rattle.pushed_keys.specs.declared.change.Change.TheVariants.{Put, TakeAway}
+use Rattle.pushed_keys.specs.declared.change.Turn.{Turn}
+use Rattle.pushed_keys.specs.declared.pushed.Pushed.{Pushed}
+use Rattle.pushed_keys.specs.declared.told.ToldTable.{ToldTable}
 use Rattle.telling.specs.Told.{Told}
-use Rattle.telling.specs.Telling.{TableTurn, changes, defined_before}
-use Rattle.telling.specs.Telling.{definition_of, definitions, last_defined, next_id, table_turn}
-use Rattle.telling.specs.Telling.{table_turns, told_after, turn_at, turns, update_of, updates}
-use Rattle.telling.specs.declared.change.Change.{Change}
-use Rattle.telling.specs.declared.change.Change.TheVariants.{Put, TakeAway}
-use Rattle.telling.specs.declared.change.Turn.{Turn}
-use Rattle.telling.specs.declared.pushed.Pushed.{Pushed}
-use Rattle.telling.specs.declared.told.ToldTable.{ToldTable}
+use Rattle.telling.specs.Telling.{TableTurn, defined_before, definition_of, definitions}
+use Rattle.telling.specs.Telling.{last_defined, table_turn, table_turns, told_after, turn_at, turns}
+use Rattle.telling.specs.Telling.{update_of, updates}
 use Rattle.turn_laws.specs.Heard.{definition_with, force_after, force_behind, heard, heard_of}
 use Rattle.turn_laws.specs.Heard.{in_force}
 use Rattle.turn_laws.proofs.ByTurn.{turn_behind, turn_messages_of, turn_section, turn_sections}

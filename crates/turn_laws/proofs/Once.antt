@@ -12,10 +12,11 @@ use Rattle.peers_msg.specs.declared.message.Message.{Message}
 use Rattle.peers_msg.specs.declared.message.Message.TheVariants as messages
 use Rattle.peers_msg.specs.Spelling.{integer_spelling}
 use Rattle.peers_msg.proofs.Numerals.{spelled, spelling_alone}
-use Rattle.telling.specs.Telling.{key_spelling, next_id, update_of, updates}
-use Rattle.telling.specs.declared.change.Change.{Change}
-use Rattle.telling.specs.declared.change.Change.TheVariants.{Put, TakeAway}
-use Rattle.telling.specs.declared.pushed.Pushed.{Pushed}
+use Rattle.pushed_keys.specs.Turns.{next_id}
+use Rattle.pushed_keys.specs.declared.change.Change.{Change}
+use Rattle.pushed_keys.specs.declared.change.Change.TheVariants.{Put, TakeAway}
+use Rattle.pushed_keys.specs.declared.pushed.Pushed.{Pushed}
+use Rattle.telling.specs.Telling.{key_spelling, update_of, updates}
 use Rattle.turn_laws.specs.Keys.{AreInOrder}
 use Rattle.turn_laws.proofs.Sides.{Each, IsBelow, unlike}
 

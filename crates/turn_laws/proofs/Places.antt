@@ -3,13 +3,14 @@ use Rattle.std.proofs.Common.{◌≡◌, ℕ, zero, suc, ◌+◌, List, [], ◌�
 use Rattle.std.proofs.Common.{ap, arith}
 use Rattle.std.specs.Prelude.{slice_get, slice_index_or}
 use Rattle.std.specs.Option.{option_map_or}
-use Rattle.telling.specs.Stands.{stands}
-use Rattle.telling.specs.Told.{Told, no_table}
-use Rattle.telling.specs.Telling.{TableTurn, changes, last_after, marks_after, table_at}
-use Rattle.telling.specs.Telling.{table_turn, table_turns, told_after, turn_at, turns, updates}
-use Rattle.telling.specs.declared.change.Turn.{Turn}
-use Rattle.telling.specs.declared.pushed.Pushed.{Pushed}
-use Rattle.telling.specs.declared.told.ToldTable.{ToldTable}
+use Rattle.pushed_keys.specs.Stands.{stands}
+use Rattle.pushed_keys.specs.Turns.{no_table, changes, last_after, marks_after}
+use Rattle.pushed_keys.specs.declared.change.Turn.{Turn}
+use Rattle.pushed_keys.specs.declared.pushed.Pushed.{Pushed}
+use Rattle.pushed_keys.specs.declared.told.ToldTable.{ToldTable}
+use Rattle.telling.specs.Told.{Told}
+use Rattle.telling.specs.Telling.{TableTurn, table_at, table_turn, table_turns, told_after, turn_at}
+use Rattle.telling.specs.Telling.{turns, updates}
 use Rattle.turn_laws.specs.Written.{updates_at}
 
 -- what a turn says of a table, from its set and what was told of it, by its place

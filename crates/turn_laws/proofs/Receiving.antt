@@ -13,23 +13,23 @@ use Rattle.std.proofs.lemmas.Bool.{cases_Bool, le-ltb, lt-ltb, ltb-false, ltb-tr
 use Rattle.agg_types.specs.Fits.{key_fits}
 use Rattle.agg_types.specs.declared.limits.TheConstants.{LONGEST_KEY}
 use Rattle.peers_msg.specs.Message.{Reading, reading_of}
-use Rattle.telling.specs.Rules.{change_of, is_told, is_written, put_after}
-use Rattle.telling.specs.Stands.{stands}
-use Rattle.telling.specs.Telling.{Told, asked, keys_told, table_at, told_after}
-use Rattle.telling.specs.Telling.{told_keys, turn_at, turn_text, turns, untold}
-use Rattle.telling.specs.declared.change.Change.{Change}
-use Rattle.telling.specs.declared.change.Change.TheVariants.{Put, TakeAway}
-use Rattle.telling.specs.declared.change.Turn.{Turn}
-use Rattle.telling.specs.declared.pushed.Pushed.{Pushed}
-use Rattle.telling.specs.declared.told.Mark.{Mark}
+use Rattle.pushed_keys.specs.Rules.{change_of, is_told, is_written, put_after}
+use Rattle.pushed_keys.specs.Stands.{stands}
+use Rattle.pushed_keys.specs.declared.change.Change.{Change}
+use Rattle.pushed_keys.specs.declared.change.Change.TheVariants.{Put, TakeAway}
+use Rattle.pushed_keys.specs.declared.change.Turn.{Turn}
+use Rattle.pushed_keys.specs.declared.pushed.Pushed.{Pushed}
+use Rattle.pushed_keys.specs.declared.told.Mark.{Mark}
+use Rattle.telling.specs.Telling.{Told, asked, keys_told, table_at, told_after, told_keys, turn_at}
+use Rattle.telling.specs.Telling.{turn_text, turns, untold}
 use Rattle.telling.proofs.Whole.{table_told}
 use Rattle.turn_laws.specs.Heard.{force_behind, heard, in_force}
-use Rattle.turn_laws.proofs.ByTurn.{turn_messages_of, turn_under_own}
 use Rattle.turn_laws.specs.Keys.{AreInOrder, AreSets, IsKept, is_in, keys_of, put_of}
 use Rattle.turn_laws.specs.Receiver.{AreTurns, Entry, Receiver, entries_after, is_flagged}
 use Rattle.turn_laws.specs.Receiver.{new_receiver, newest, reads, receiver_behind}
 use Rattle.turn_laws.specs.Session.{Asked, Step, Turned, told_behind}
 use Rattle.turn_laws.specs.Written.{AreTables}
+use Rattle.turn_laws.proofs.ByTurn.{turn_messages_of, turn_under_own}
 use Rattle.turn_laws.proofs.Entries.{AreReadable, behind, changes_at, made, table_entries}
 use Rattle.turn_laws.proofs.Hearing.{turn_heard}
 use Rattle.turn_laws.proofs.Places.{marks_there}

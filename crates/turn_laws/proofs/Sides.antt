@@ -10,18 +10,18 @@ use Rattle.std.specs.Str.{bytes_eq}
 use Rattle.std.specs.declared.cmp.Ordering.{Ordering}
 use Rattle.std.specs.declared.cmp.Ordering.TheVariants.{Less, Equal, Greater}
 use Rattle.std.proofs.lemmas.Map.Lookups.{exact_bytes}
-use Rattle.telling.specs.Rules.{change_of, put_after}
-use Rattle.telling.specs.Stands.{Stand, by_order, in_set, only_told, placed, stands}
-use Rattle.telling.specs.Telling.{changes, marks_after}
-use Rattle.telling.specs.declared.change.Change.{Change}
-use Rattle.telling.specs.declared.change.Turn.{Turn}
-use Rattle.telling.specs.declared.pushed.Pushed.{Pushed}
-use Rattle.telling.specs.declared.told.Mark.{Mark}
+use Rattle.pushed_keys.specs.Rules.{change_of, put_after}
+use Rattle.pushed_keys.specs.Stands.{Stand, by_order, in_set, only_told, placed, stands}
+use Rattle.pushed_keys.specs.Turns.{changes, marks_after}
+use Rattle.pushed_keys.specs.declared.change.Change.{Change}
+use Rattle.pushed_keys.specs.declared.change.Turn.{Turn}
+use Rattle.pushed_keys.specs.declared.pushed.Pushed.{Pushed}
+use Rattle.pushed_keys.specs.declared.told.Mark.{Mark}
+pub use Rattle.pushed_keys.proofs.Order.{Each, IsBelow, alike, unlike}
+use Rattle.pushed_keys.proofs.Order.{below_above, each_above, not_in}
+use Rattle.pushed_keys.proofs.Turned.{no_change}
 pub use Rattle.telling.proofs.InOrder.{each_marked, each_stand, order_marked, order_stands}
 use Rattle.telling.proofs.InOrder.{stand_keys}
-pub use Rattle.telling.proofs.Order.{Each, IsBelow, alike, unlike}
-use Rattle.telling.proofs.Order.{below_above, each_above, not_in}
-use Rattle.telling.proofs.Turned.{no_change}
 use Rattle.turn_laws.specs.Keys.{AreInOrder, change_for, is_in, keys_of, put_of}
 
 -- ---- keys in order

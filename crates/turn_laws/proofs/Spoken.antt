@@ -13,22 +13,23 @@ use Rattle.agg_types.specs.declared.limits.TheConstants.{LONGEST_KEY, LONGEST_PA
 use Rattle.peers_msg.specs.declared.message.Message.{Message}
 use Rattle.peers_msg.specs.declared.message.Message.TheVariants as messages
 use Rattle.peers_msg.specs.Message.{after_message, reading_of, reading_within}
-use Rattle.peers_msg.specs.Spelling.{IsInRange, IsSendable}
+use Rattle.peers_msg.specs.Spelling.{IsInRange, IsSendable, as_written}
 use Rattle.peers_msg.specs.Spelling.{integer_spelling, word_spelling}
 use Rattle.peers_msg.proofs.Again.{reading_again}
 use Rattle.peers_msg.proofs.Numerals.{spelling_len}
-use Rattle.telling.specs.Stands.{stands}
-use Rattle.telling.specs.Told.{Told, no_table}
-use Rattle.telling.specs.Telling.{TableTurn, changes, defined_after, defined_before, define_unless}
+use Rattle.pushed_keys.specs.Stands.{stands}
+use Rattle.pushed_keys.specs.Turns.{no_table, changes, next_id}
+use Rattle.pushed_keys.specs.declared.change.Change.{Change}
+use Rattle.pushed_keys.specs.declared.change.Change.TheVariants.{Put, TakeAway}
+use Rattle.pushed_keys.specs.declared.change.Turn.{Turn}
+use Rattle.pushed_keys.specs.declared.pushed.Pushed.{Pushed}
+use Rattle.pushed_keys.specs.declared.told.ToldTable.{ToldTable}
+use Rattle.telling.specs.Told.{Told}
+use Rattle.telling.specs.Telling.{TableTurn, defined_after, defined_before, define_unless}
 use Rattle.telling.specs.Telling.{definition_of, definitions, first_definitions, key_length}
-use Rattle.telling.specs.Telling.{key_spelling, next_id, table_turn, table_turns, text_of}
-use Rattle.telling.specs.Telling.{turn_at, turn_text, turns, update_messages}
-use Rattle.telling.specs.Telling.{update_of, updates, with_definition}
-use Rattle.telling.specs.declared.change.Change.{Change}
-use Rattle.telling.specs.declared.change.Change.TheVariants.{Put, TakeAway}
-use Rattle.telling.specs.declared.change.Turn.{Turn}
-use Rattle.telling.specs.declared.pushed.Pushed.{Pushed}
-use Rattle.telling.specs.declared.told.ToldTable.{ToldTable}
+use Rattle.telling.specs.Telling.{key_spelling, table_turn, table_turns, text_of, turn_at}
+use Rattle.telling.specs.Telling.{turn_text, turns, update_messages, update_of, updates}
+use Rattle.telling.specs.Telling.{with_definition}
 use Rattle.turn_laws.specs.Keys.{AreSets, AreShort, IsKept, keys_of}
 use Rattle.turn_laws.specs.Written.{AreTables, IsTable}
 use Rattle.turn_laws.proofs.ByTurn.{turn_behind, turn_messages_of, turn_section, turn_sections}
@@ -36,9 +37,9 @@ use Rattle.turn_laws.proofs.Sides.{each_changed, each_stand}
 
 -- ---- what is written is read
 
--- a message that is written whole
+-- a message that is written whole, as it is
 abbrev pub IsSpoken : Message → Type 0
-IsSpoken message = IsSendable message × IsInRange message
+IsSpoken message = IsSendable message × IsInRange message × (as_written message ≡ message)
 
 abbrev pub AreSpoken : List Message → Type 0
 AreSpoken ms = AllByRecursion IsSpoken ms
@@ -51,7 +52,9 @@ pub all_read : (ms : List Message) → AreSpoken ms
     → reading_of (text_of ms) ≡ record { messages = ms; fault = None; rest = [] }
 all_read [] h = nothing_read
 all_read (m ∷ ms) h =
-    reading_again m (text_of ms) h.0.0 h.0.1 ∙ ap (after_message m) (all_read ms h.1)
+    reading_again m (text_of ms) h.0.0 h.0.1
+    ∙ ap (λ (n : Message). after_message n (reading_of (text_of ms))) h.0.2
+    ∙ ap (after_message m) (all_read ms h.1)
 
 spoken_append : (ms ns : List Message) → AreSpoken ms → AreSpoken ns → AreSpoken (ms ++ ns)
 spoken_append [] ns h k = k
@@ -90,7 +93,9 @@ definition_spoken id table small h =
         bits = omega arith;
         expiry = life;
         periods = tt;
+        arrays = tt;
       },
+      refl,
     )
 
 key_small : (kind : KeyKind) (key : List ℕ) → length key ≤ 256
@@ -114,9 +119,9 @@ rest_small kind key id life byte short =
 update_spoken : (table : Pushed) (id : ℕ) (key : List ℕ) (change : Change) → id < 2 ^ 32
     → table.life < 2 ^ 32 → length key ≤ LONGEST_KEY → IsSpoken (update_of table id key change)
 update_spoken table id key Put small life short =
-    (rest_small table.kind key id table.life 1 short, (small, life))
+    (rest_small table.kind key id table.life 1 short, (small, life), refl)
 update_spoken table id key TakeAway small life short =
-    (rest_small table.kind key id 1 0 short, (small, omega arith))
+    (rest_small table.kind key id 1 0 short, (small, omega arith), refl)
 
 updates_spoken : (table : Pushed) (last : ℕ) (cs : List (List ℕ × Change)) → table.life < 2 ^ 32
     → AreShort (map (λ c. c.0) cs) → AreSpoken (updates table last cs)

@@ -5,15 +5,16 @@ use Rattle.std.specs.Prelude.{slice_get, slice_index_or}
 use Rattle.std.specs.List.Sorted.{IsStrictlySortedBy}
 use Rattle.agg_types.specs.declared.limits.TheConstants.{LONGEST_KEY}
 use Rattle.peers_msg.specs.declared.message.Message.{Message}
-use Rattle.telling.specs.Rules.{change_of, put_after}
-use Rattle.telling.specs.Stands.{Stand, stands}
+use Rattle.pushed_keys.specs.Rules.{change_of, put_after}
+use Rattle.pushed_keys.specs.Stands.{Stand, stands}
+use Rattle.pushed_keys.specs.Turns.{changes}
+use Rattle.pushed_keys.specs.declared.change.Change.{Change}
+use Rattle.pushed_keys.specs.declared.pushed.Pushed.{Pushed}
+use Rattle.pushed_keys.specs.declared.told.Mark.{Mark}
+use Rattle.pushed_keys.specs.declared.told.ToldTable.{ToldTable}
+use Rattle.pushed_keys.proofs.Left.{last_counts}
 use Rattle.telling.specs.Told.{Told}
-use Rattle.telling.specs.Telling.{changes, table_at, told_after, turn_at}
-use Rattle.telling.specs.declared.change.Change.{Change}
-use Rattle.telling.specs.declared.pushed.Pushed.{Pushed}
-use Rattle.telling.specs.declared.told.Mark.{Mark}
-use Rattle.telling.specs.declared.told.ToldTable.{ToldTable}
-use Rattle.telling.proofs.Steps.{last_counts}
+use Rattle.telling.specs.Telling.{table_at, told_after, turn_at}
 use Rattle.turn_laws.specs.Keys.{AreInOrder, AreSets, AreShort, IsKept, change_for, is_in, keys_of}
 use Rattle.turn_laws.specs.Keys.{put_of}
 use Rattle.turn_laws.specs.Written.{Has, Tells, updates_at}

@@ -5,8 +5,8 @@ use Rattle.std.specs.Option.{option_map}
 use Rattle.peers_msg.specs.declared.message.Definition.{Definition}
 use Rattle.peers_msg.specs.declared.message.Message.{Message}
 use Rattle.peers_msg.specs.declared.message.Message.TheVariants as messages
+use Rattle.pushed_keys.specs.declared.pushed.Pushed.{Pushed}
 use Rattle.telling.specs.Telling.{Told, definition_of}
-use Rattle.telling.specs.declared.pushed.Pushed.{Pushed}
 
 -- the table in force behind a message
 abbrev pub force_after : Option Definition → Message → Option Definition

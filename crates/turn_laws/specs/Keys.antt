@@ -7,9 +7,9 @@ use Rattle.std.specs.List.Sorted.{IsStrictlySortedBy}
 use Rattle.std.specs.Ordering.{nat_cmp}
 use Rattle.std.specs.Str.{bytes_eq}
 use Rattle.agg_types.specs.declared.limits.TheConstants.{LONGEST_KEY}
+use Rattle.pushed_keys.specs.declared.change.Change.{Change}
+use Rattle.pushed_keys.specs.declared.told.Mark.{Mark}
 use Rattle.telling.specs.Telling.{Told, table_at}
-use Rattle.telling.specs.declared.change.Change.{Change}
-use Rattle.telling.specs.declared.told.Mark.{Mark}
 
 -- keys in the order of their bytes, each once
 abbrev pub AreInOrder : List (List ℕ) → Type 0

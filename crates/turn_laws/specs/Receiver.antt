@@ -13,8 +13,8 @@ use Rattle.peers_msg.specs.Payload.{◌>>=◌, number_at, string_at}
 use Rattle.peers_msg.specs.declared.message.Definition.{Definition}
 use Rattle.peers_msg.specs.declared.message.Message.{Message}
 use Rattle.peers_msg.specs.declared.message.Message.TheVariants as messages
+use Rattle.pushed_keys.specs.declared.pushed.Pushed.{Pushed}
 use Rattle.telling.specs.Telling.{Told, asked, told_after, turn_text}
-use Rattle.telling.specs.declared.pushed.Pushed.{Pushed}
 use Rattle.turn_laws.specs.Heard.{force_behind, heard}
 use Rattle.turn_laws.specs.Keys.{AreSets}
 use Rattle.turn_laws.specs.Session.{Asked, Step, Turned}

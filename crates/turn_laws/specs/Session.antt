@@ -2,8 +2,8 @@
 use Rattle.std.specs.Prelude.{ℕ, List, [], ◌∷◌, ◌++◌, Option, None}
 use Rattle.peers_msg.specs.declared.message.Message.{Message}
 use Rattle.peers_msg.specs.declared.message.Message.TheVariants as messages
+use Rattle.pushed_keys.specs.declared.pushed.Pushed.{Pushed}
 use Rattle.telling.specs.Telling.{Told, asked, told_after}
-use Rattle.telling.specs.declared.pushed.Pushed.{Pushed}
 use Rattle.turn_laws.specs.Written.{updates_at}
 
 -- a turn over sets at a moment, or a resync request is read

@@ -5,13 +5,13 @@ use Rattle.std.specs.List.{AllByRecursion, enumerate_from}
 use Rattle.std.specs.Option.{option_map_or}
 use Rattle.agg_types.specs.declared.limits.TheConstants.{LONGEST_NAME}
 use Rattle.peers_msg.specs.declared.message.Message.{Message}
-use Rattle.telling.specs.Rules.{change_of}
+use Rattle.pushed_keys.specs.Rules.{change_of}
+use Rattle.pushed_keys.specs.declared.change.Change.{Change}
+use Rattle.pushed_keys.specs.declared.change.Turn.{Turn}
+use Rattle.pushed_keys.specs.declared.pushed.Pushed.{Pushed}
+use Rattle.pushed_keys.specs.declared.told.ToldTable.{ToldTable}
 use Rattle.telling.specs.Telling.{Told, defined_before, define_unless, first_definitions}
 use Rattle.telling.specs.Telling.{key_length, turns, update_of}
-use Rattle.telling.specs.declared.change.Change.{Change}
-use Rattle.telling.specs.declared.change.Turn.{Turn}
-use Rattle.telling.specs.declared.pushed.Pushed.{Pushed}
-use Rattle.telling.specs.declared.told.ToldTable.{ToldTable}
 use Rattle.turn_laws.specs.Keys.{AreInOrder, change_for, is_in, put_of}
 
 -- a table that has a definition: its name is one, and its numbers are in their ranges

@@ -4,12 +4,12 @@
 ghost use Rattle.std.specs.Prelude.{◌≡◌, ◌⊎◌, ◌<◌, ◌≤◌, ◌+◌, ◌-◌, ◌*◌, ◌%◌, ◌^◌, ℕ, List, []};
 ghost use Rattle.std.specs.Prelude.{Some, true, false, length, map, slice_get, slice_index_or};
 ghost use Rattle.std.specs.List.{enumerate_from};
+ghost use Rattle.pushed_keys.specs.Rules.{put_after};
+ghost use Rattle.pushed_keys.specs.declared.change.Change.TheVariants.{Put, TakeAway};
+ghost use Rattle.pushed_keys.specs.declared.change.TheConstants.{REFRESH_AHEAD};
+ghost use Rattle.pushed_keys.specs.declared.pushed.Pushed.{Pushed};
 ghost use Rattle.telling.specs.Among.{IsAmong, IsMarked, IsMarkOf};
-ghost use Rattle.telling.specs.Rules.{put_after};
 ghost use Rattle.telling.specs.Telling.{Told, asked, table_at, told_after, turn_at, untold};
-ghost use Rattle.telling.specs.declared.change.Change.TheVariants.{Put, TakeAway};
-ghost use Rattle.telling.specs.declared.change.TheConstants.{REFRESH_AHEAD};
-ghost use Rattle.telling.specs.declared.pushed.Pushed.{Pushed};
 ghost use Rattle.turn_laws.specs.Keys.{AreSets, IsKept, is_in, put_of};
 ghost use Rattle.turn_laws.specs.Session.{Step, id_of, updates_behind};
 ghost use Rattle.turn_laws.specs.Written.{Has, IsUpdateOf, Tells, updates_at};

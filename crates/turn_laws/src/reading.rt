@@ -2,12 +2,12 @@
 //! nothing.
 
 ghost use Rattle.std.specs.Prelude.{◌≡◌, ℕ, List, [], None};
-ghost use Rattle.peers_msg.specs.Message.{reading_of};
 ghost use Rattle.agg_types.specs.Check.{all_faults};
 ghost use Rattle.agg_types.specs.declared.config.Config.{Config};
-ghost use Rattle.telling.specs.Pushes.{pushed_of};
+ghost use Rattle.peers_msg.specs.Message.{reading_of};
+ghost use Rattle.pushed_keys.specs.Pushes.{pushed_of};
+ghost use Rattle.pushed_keys.specs.declared.pushed.Pushed.{Pushed};
 ghost use Rattle.telling.specs.Telling.{Told, told_after, turn_text};
-ghost use Rattle.telling.specs.declared.pushed.Pushed.{Pushed};
 ghost use Rattle.turn_laws.specs.Heard.{all_under_own, force_behind, heard, in_force};
 ghost use Rattle.turn_laws.specs.Keys.{AreSets, IsKept};
 ghost use Rattle.turn_laws.specs.Written.{AreTables, messages_of, updates_at};

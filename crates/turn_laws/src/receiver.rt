@@ -1,8 +1,8 @@
 //! The law of a receiver. It is the contract of a function that does nothing.
 
 ghost use Rattle.std.specs.Prelude.{◌≡◌, ◌+◌, ℕ, List, Some, slice_get};
+ghost use Rattle.pushed_keys.specs.declared.pushed.Pushed.{Pushed};
 ghost use Rattle.telling.specs.Telling.{told_keys, untold};
-ghost use Rattle.telling.specs.declared.pushed.Pushed.{Pushed};
 ghost use Rattle.turn_laws.specs.Keys.{is_in};
 ghost use Rattle.turn_laws.specs.Receiver.{AreTurns, is_flagged, new_receiver, newest};
 ghost use Rattle.turn_laws.specs.Receiver.{receiver_behind};

@@ -78,4 +78,5 @@ returns-clause-ok c =
     }
 
 pub new-requires-clause-checked : goal.new-requires-clause-checked
-new-requires-clause-checked c = front_none _ _ (front_none _ _ c.in_default.ensures)
+new-requires-clause-checked c =
+    front_none _ _ (front_none _ _ (front_none _ _ (front_none _ _ c.in_default.ensures)))

@@ -1,8 +1,8 @@
 use Rattle.std.proofs.Common.{◌≡◌, ◌⊎◌, sym, subst, List, ℕ, [], inl, inr, refl}
 use Rattle.std.specs.Prelude.{slice_index_or}
+use Rattle.pushed_keys.specs.declared.told.Mark.{Mark}
 use Rattle.telling.specs.Among.{AllMarks, IsAmong, IsMarkOf}
 use Rattle.telling.specs.Telling.{table_at, turn_at}
-use Rattle.telling.specs.declared.told.Mark.{Mark}
 use Rattle.telling.proofs.Brought.{marks_at, set_marks}
 use Rattle.telling.proofs.Among.{all_weaker, each_mark}
 use Rattle.telling.proofs.laws.marks_are_turns.Goals as goal

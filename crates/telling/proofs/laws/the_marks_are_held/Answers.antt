@@ -1,9 +1,9 @@
 use Rattle.std.proofs.Common.{sym, subst, List}
 use Rattle.std.specs.Prelude.{slice_index_or, []}
+use Rattle.pushed_keys.specs.Moves.{marked}
+use Rattle.pushed_keys.specs.declared.told.Mark.{Mark}
 use Rattle.telling.specs.Among.{IsAmong}
-use Rattle.telling.specs.Moves.{marked}
 use Rattle.telling.specs.Telling.{table_at, turn_at}
-use Rattle.telling.specs.declared.told.Mark.{Mark}
 use Rattle.telling.proofs.Brought.{marks_at}
 use Rattle.telling.proofs.Marked.{all_marked, marked_from}
 use Rattle.telling.proofs.laws.the_marks_are_held.Goals as goal

@@ -1,8 +1,8 @@
 use Rattle.std.proofs.Common.{◌∙◌, ap, List}
 use Rattle.std.specs.Prelude.{slice_index_or, []}
-use Rattle.telling.specs.Moves.{marked, set_of}
+use Rattle.pushed_keys.specs.Moves.{marked, set_of}
+use Rattle.pushed_keys.specs.declared.told.Mark.{Mark}
 use Rattle.telling.specs.Telling.{table_at, turn_at}
-use Rattle.telling.specs.declared.told.Mark.{Mark}
 use Rattle.telling.proofs.Brought.{marks_at}
 use Rattle.telling.proofs.Kept.{set_kept, set_marked}
 use Rattle.telling.proofs.laws.the_set_is_marked.Goals as goal

@@ -1,5 +1,5 @@
 use Rattle.std.proofs.Common.{◌≡◌, ◌++◌, length, map}
-use Rattle.telling.specs.Packed.{marks_of}
+use Rattle.pushed_keys.specs.Packed.{marks_of}
 use Rattle.telling.specs.Telling.{keys_told}
 use Rattle.telling.proofs.teller.keys_told.Given as goal
 

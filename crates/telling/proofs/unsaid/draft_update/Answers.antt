@@ -1,5 +1,5 @@
 use Rattle.std.proofs.Common.{sym, refl}
-use Rattle.telling.proofs.Rest.{drop_found, none_from}
+use Rattle.pushed_keys.proofs.Rest.{drop_found, none_from}
 use Rattle.telling.proofs.Steps.{is_next, none_next, none_there}
 use Rattle.telling.proofs.unsaid.draft_update.Goals as goal
 

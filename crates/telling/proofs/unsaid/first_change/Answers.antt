@@ -1,4 +1,4 @@
-use Rattle.telling.proofs.Rest.{drop_here}
+use Rattle.pushed_keys.proofs.Rest.{drop_here}
 use Rattle.telling.proofs.Steps.{past_here, past_more}
 use Rattle.telling.proofs.unsaid.first_change.Goals as goal
 

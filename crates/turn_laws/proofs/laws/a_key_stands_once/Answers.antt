@@ -1,7 +1,8 @@
 use Rattle.std.proofs.Common.{◌∙◌, ap, sym, ℕ, List}
 use Rattle.std.specs.Prelude.{slice_get}
 use Rattle.peers_msg.specs.declared.message.Message.{Message}
-use Rattle.telling.specs.Telling.{changes, table_at, turn_at}
+use Rattle.pushed_keys.specs.Turns.{changes}
+use Rattle.telling.specs.Telling.{table_at, turn_at}
 use Rattle.turn_laws.proofs.Once.{update_once}
 use Rattle.turn_laws.proofs.Places.{updates_there}
 use Rattle.turn_laws.proofs.Sides.{order_changed}

@@ -1,9 +1,9 @@
 use Rattle.std.proofs.Common.{◌≡◌, ◌∙◌, ap, Bool, [], List, None, Some}
 use Rattle.std.specs.Prelude.{slice_index_or}
-use Rattle.telling.specs.Rules.{change_of, put_after}
+use Rattle.pushed_keys.specs.Rules.{change_of, put_after}
+use Rattle.pushed_keys.specs.declared.change.Change.TheVariants.{TakeAway}
+use Rattle.pushed_keys.specs.declared.told.Mark.{Mark}
 use Rattle.telling.specs.Telling.{table_at, told_after, turn_at}
-use Rattle.telling.specs.declared.change.Change.TheVariants.{TakeAway}
-use Rattle.telling.specs.declared.told.Mark.{Mark}
 use Rattle.turn_laws.specs.Keys.{put_of}
 use Rattle.turn_laws.proofs.Changes.{mark_put, marked_put, not_among, taken, unmarked}
 use Rattle.turn_laws.proofs.Tables.{has_there, kept_behind, put_there}

@@ -1,8 +1,8 @@
 use Rattle.std.proofs.Common.{◌∙◌, ap, Bool, []}
 use Rattle.std.specs.Prelude.{slice_index_or}
-use Rattle.telling.specs.Rules.{change_of}
+use Rattle.pushed_keys.specs.Rules.{change_of}
+use Rattle.pushed_keys.specs.declared.change.Change.TheVariants.{Put}
 use Rattle.telling.specs.Telling.{table_at, turn_at}
-use Rattle.telling.specs.declared.change.Change.TheVariants.{Put}
 use Rattle.turn_laws.specs.Keys.{put_of}
 use Rattle.turn_laws.proofs.Changes.{among_in, put_anew}
 use Rattle.turn_laws.proofs.Tables.{has_there}

@@ -1,10 +1,10 @@
 use Rattle.std.proofs.Common.{◌≡◌, ◌∙◌, ap, Bool, [], ℕ, List, Option, None, Some, refl}
 use Rattle.std.specs.Prelude.{slice_index_or}
+use Rattle.pushed_keys.specs.Rules.{change_of, put_after}
+use Rattle.pushed_keys.specs.declared.change.Change.TheVariants.{Put}
+use Rattle.pushed_keys.specs.declared.told.Mark.{Mark}
 use Rattle.telling.specs.Among.{IsMarkOf}
-use Rattle.telling.specs.Rules.{change_of, put_after}
 use Rattle.telling.specs.Telling.{table_at, told_after, turn_at}
-use Rattle.telling.specs.declared.change.Change.TheVariants.{Put}
-use Rattle.telling.specs.declared.told.Mark.{Mark}
 use Rattle.turn_laws.specs.Keys.{put_of}
 use Rattle.turn_laws.proofs.Changes.{among_in, fresh, mark_put, put_due, put_mark, put_new}
 use Rattle.turn_laws.proofs.Tables.{has_there, put_there}

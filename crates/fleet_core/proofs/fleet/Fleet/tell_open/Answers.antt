@@ -1,5 +1,5 @@
 use Rattle.std.proofs.Common.{sym, ap, ◌∙◌, map}
-use Rattle.telling.specs.Pushes.{pushed_of}
+use Rattle.pushed_keys.specs.Pushes.{pushed_of}
 use Rattle.fleet_core.specs.Telling.{sets_of}
 use Rattle.fleet_core.proofs.HandingOver.{kept, settled}
 use Rattle.fleet_core.proofs.Steps.{left_early}

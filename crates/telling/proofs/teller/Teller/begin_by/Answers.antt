@@ -1,6 +1,6 @@
 use Rattle.std.proofs.Common.{◌∙◌, ap, map, sym, subst, List}
-use Rattle.telling.specs.Moves.{AreMovedTo}
-use Rattle.telling.specs.declared.told.ToldTable.{ToldTable}
+use Rattle.pushed_keys.specs.Moves.{AreMovedTo}
+use Rattle.pushed_keys.specs.declared.told.ToldTable.{ToldTable}
 use Rattle.telling.proofs.Whole.{whole_messages, whole_told}
 use Rattle.telling.proofs.teller.Teller.begin_by.Goals as goal
 
@@ -20,4 +20,4 @@ returns-clause-told c = λ sets to.
     (map (λ ms. ms.items) c.args.moves.now) ts sets) (sym tables) to in
     c.end_turn.ensures ∙ whole_told c.args.pushed.now sets c.args.now c.args.self.now _ _ _ _ _
     c.turn_at-turn.ensures tables (c.in_ok-left.ensures.unsaid sets moved)
-    (c.in_ok-left.ensures.after sets moved) c.unsaid_of-unsaid.ensures.defined
+    (c.in_ok-left.ensures.told sets moved) c.unsaid_of-unsaid.ensures.defined

@@ -1,6 +1,6 @@
 use Rattle.std.proofs.Common.{◌∙◌, ap, sym}
 use Rattle.std.specs.Prelude.{slice_index_or}
-use Rattle.telling.specs.Told.{no_table}
+use Rattle.pushed_keys.specs.Turns.{no_table}
 use Rattle.telling.proofs.Whole.{none_told, table_told}
 use Rattle.telling.proofs.teller.Teller.told.Goals as goal
 

@@ -1,11 +1,11 @@
 use Rattle.std.proofs.Common.{◌≡◌, [], false, drop, refl, subst, List}
 use Rattle.std.proofs.lemmas.Result.{IfOk-weaker}
 use Rattle.std.specs.Prelude.{MatchOption}
+use Rattle.pushed_keys.specs.declared.told.UnsaidTable.{UnsaidTable}
+use Rattle.pushed_keys.proofs.Rest.{drop_here}
 use Rattle.telling.specs.Down.{IsNext}
 use Rattle.telling.specs.Unsaid.{Unsaid, unsaid_messages}
 use Rattle.telling.specs.declared.unsaid.Step.{Step}
-use Rattle.telling.specs.declared.unsaid.UnsaidTable.{UnsaidTable}
-use Rattle.telling.proofs.Rest.{drop_here}
 use Rattle.telling.proofs.Steps.{first_next, left_at, next_behind}
 use Rattle.telling.proofs.unsaid.Unsaid.draft_next.Goals as goal
 

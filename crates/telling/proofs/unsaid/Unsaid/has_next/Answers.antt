@@ -1,6 +1,6 @@
 use Rattle.std.proofs.Common.{◌≡◌, ◌≢◌, ◌∙◌, [], ap, drop, refl, subst, sym, List}
+use Rattle.pushed_keys.specs.declared.told.UnsaidTable.{UnsaidTable}
 use Rattle.telling.specs.Unsaid.{Unsaid, unsaid_messages, unsaid_updates}
-use Rattle.telling.specs.declared.unsaid.UnsaidTable.{UnsaidTable}
 use Rattle.telling.proofs.Steps.{no_message, some_definition, some_message}
 use Rattle.telling.proofs.unsaid.Unsaid.has_next.Goals as goal
 

@@ -1,0 +1,14 @@
+pub mod Packing
+pub mod Changed
+pub mod Still
+pub mod Rest
+pub mod Left
+pub mod Firsts
+pub mod Taken
+pub mod Quiet
+pub mod Order
+pub mod Through
+pub mod Comes
+pub mod Beside
+pub mod Words
+pub mod Turned

@@ -1,8 +1,0 @@
-use Rattle.std.proofs.Common.{◌≡◌, ◌++◌, drop}
-use Rattle.telling.specs.Packed.{moments}
-use Rattle.telling.proofs.parts.all_after.Given as goal
-
--- the moments so far, and those that are left
-abbrev pub invariant-loop-put : goal.invariant-loop-put
-invariant-loop-put l =
-    moments l.base l.afters.items ++ drop l.put-index l.puts ≡ l.puts

@@ -1,9 +1,0 @@
-use Rattle.std.proofs.Common.{◌≡◌, ◌++◌, map, drop}
-use Rattle.telling.specs.Pushes.{pushed_as}
-use Rattle.telling.proofs.pushed.pushed_of.Given as goal
-
--- what is there, and what is still to come
-abbrev pub invariant-loop-push : goal.invariant-loop-push
-invariant-loop-push l =
-    l.pushed.items ++ map (pushed_as l.config) (drop l.push-index l.push-items)
-    ≡ map (pushed_as l.config) l.push-items
