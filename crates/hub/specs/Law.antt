@@ -14,8 +14,17 @@ events_of (Opened config opening ∷ later) = events_of later
 events_of (Happened events ∷ later) = events ++ events_of later
 
 abbrev pub no_config : Config
-no_config =
-    record { me = []; peers = []; tables = []; filters = []; ranks = []; pushes = []; rows = None }
+no_config = record {
+  me = [];
+  peers = [];
+  tables = [];
+  filters = [];
+  ranks = [];
+  pushes = [];
+  rows = None;
+  logs = [];
+  ignored = [];
+}
 
 abbrev pub config_of : List Entry → Config
 config_of [] = no_config

@@ -63,8 +63,7 @@ pub struct Shown {
     trail: Trail,
     // What the book tells of its filters' sets while it takes something.
     flips: Flips,
-    // What it told of the trail. None where nothing is pushed, and behind more events than are
-    // counted.
+    // What it told of the trail, of every filter. None behind more events than are counted.
     changes: Option<Changes>,
 }
 
@@ -111,14 +110,14 @@ impl Shown {
         ensures { result ≡ record { copied = whole at; part = false } }
     {
         let trail = Trail::open(&book);
-        let changes = opened_changes(alloc, &book);
+        let changes = Changes::new(alloc);
         Shown {
             book,
             at,
             rest: None,
             trail,
             flips: Flips::new(alloc),
-            changes,
+            changes: Some(changes),
         }
     }
 
@@ -205,17 +204,6 @@ impl Shown {
         }
         Ok(())
     }
-}
-
-// The changes of a book that was just opened. None are kept where the configuration pushes nothing,
-// since nobody asks for them then.
-fn opened_changes(alloc: Global, book: &Book) -> Option<Changes>
-    ensures { (sets : Sets) → IfSome result (λ n. AreChangesOf n sets []) }
-{
-    if book.config().pushes.is_empty() {
-        return None;
-    }
-    Some(Changes::new(alloc))
 }
 
 // Has a book tell anew what changes in the sets, or nothing where no changes are kept.

@@ -113,8 +113,7 @@ impl Look<'_> {
 
     /// What came into the set of the filter at a place of the book's configuration and what left
     /// it, behind the first so many events of the list that the lens has seen, in order. None where
-    /// that isn't known any more, and where the configuration pushes nothing, since then nothing of
-    /// it is kept. Takes memory for the answer alone.
+    /// that isn't known any more. Takes memory for the answer alone.
     pub fn changes(&self, filter: usize, since: u64) -> Result<Option<Vec<&Change>>, NoMemory>
         requires { self.now.lens.now.inside ≡ true }
         ensures { IfOk result (λ found. IfSome found (λ changes.

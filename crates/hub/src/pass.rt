@@ -12,6 +12,7 @@ ghost use Rattle.hub.specs.History.{longer_by, own};
 ghost use Rattle.hub.specs.Posts.{FindsReplaced, NoneReplaced, advanced};
 ghost use Rattle.hub.specs.Roll.{IsCountOf, MayPost};
 ghost use Rattle.hub.specs.Sitting.{Recalls};
+ghost use Rattle.hub.specs.Views.{Learns};
 
 use crate::batch::Run;
 use crate::copies::Logged;
@@ -94,12 +95,16 @@ impl Pass {
         &self.front
     }
 
-    /// Has it see the list of a receipt, as `Hub::post` does; for what was appended and awaited.
+    /// Learns the list of a receipt, as `Hub::post` does; for what was appended and awaited. Of
+    /// this list and its own the longer is then what it has seen, so a pass is never set back.
     pub fn see(&mut self, receipt: &Receipt)
         requires { receipt.now.of ≡ self.old.seen.of }
-        ensures { self.new ≡ record self.old { seen = receipt.now } }
+        ensures same { self.new ≡ record self.old { seen = self.new.seen } }
+        ensures learns { Learns self.old.seen receipt.now self.new.seen }
     {
-        self.front = receipt.front().again();
+        if self.front.compare(receipt.front()) {
+            self.front = receipt.front().again();
+        }
     }
 
     /// The list of the older of its last two batches, empty and with its room: for what it posts

@@ -1,4 +1,4 @@
-use Rattle.std.proofs.Common.{false, sym, subst, refl, ap}
+use Rattle.std.proofs.Common.{Some, false, sym, subst, refl, ap}
 use Rattle.hub.specs.Changing.{AreKeptOf, sets_of}
 use Rattle.hub.specs.Copied.{Copied}
 use Rattle.hub.specs.Trailed.{StandsAt, Trailed}
@@ -11,8 +11,8 @@ invariant_of-result c = (
   tt,
   subst (λ (t : Trailed). StandsAt c.args.book t) (sym c.open-trail.ensures)
       (stands_opened c.args.book c.args.at.config c.args.at.opening c.requires.opened),
-  subst (λ (t : Trailed). AreKeptOf c.opened_changes-changes.result t) (sym c.open-trail.ensures)
-      (c.opened_changes-changes.ensures (sets_of c.args.book.config c.args.book.moment)),
+  subst (λ (t : Trailed). AreKeptOf (Some c.new-changes.result) t) (sym c.open-trail.ensures)
+      (c.new-changes.ensures (sets_of c.args.book.config c.args.book.moment)),
 )
 
 pub returns : goal.returns
