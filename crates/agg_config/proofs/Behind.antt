@@ -1,10 +1,11 @@
 -- A declaration behind others that have no fault.
 use Rattle.std.proofs.Common.{◌≡◌, ℕ, ◌-◌, Bool, false, not, ◌&&◌, ◌||◌, List, [], ◌∷◌, ◌++◌}
-use Rattle.std.proofs.Common.{length, map, remove, Option, Some, refl, sym, ap, ◌∙◌, arith}
+use Rattle.std.proofs.Common.{length, map, remove, Some, refl, sym, ap, ◌∙◌, arith}
 use Rattle.std.proofs.Common.{append-nil, append_assoc, length-append, Ok, Err}
 use Rattle.std.specs.Prelude.{slice_get}
 use Rattle.agg_types.specs.Check.{all_faults, each, fault_if, filter_faults, peer_faults}
-use Rattle.agg_types.specs.Check.{push_faults, rank_faults, rows_fit, table_faults}
+use Rattle.agg_types.specs.Check.{ignored_faults, log_faults, push_faults, rank_faults}
+use Rattle.agg_types.specs.Check.{rows_fit, table_faults}
 use Rattle.agg_types.specs.Name.{is_name}
 use Rattle.agg_types.specs.declared.check.ConfigFault.{ConfigFault}
 use Rattle.agg_types.specs.declared.check.ConfigFault.TheVariants.{BadName, BadSize}
@@ -24,6 +25,8 @@ pub record Parts (config : Config) : Type 0 where
   pub ranks : each (rank_faults config.tables) [] config.ranks ≡ []
   pub pushes : each (push_faults config.tables config.filters) [] config.pushes ≡ []
   pub rows : fault_if (not (rows_fit config.rows)) BadSize ≡ []
+  pub logs : each (log_faults config.filters) [] config.logs ≡ []
+  pub ignored : each (ignored_faults config.tables) [] config.ignored ≡ []
 
 pub parts : (config : Config) → all_faults config ≡ [] → Parts config
 parts config none =
@@ -33,21 +36,26 @@ parts config none =
     let d = both_none _ _ c.0 in
     let e = both_none _ _ d.0 in
     let f = both_none _ _ e.0 in
+    let g = both_none _ _ f.0 in
+    let h = both_none _ _ g.0 in
     record {
-      me = f.0;
-      peers = f.1;
-      tables = e.1;
-      filters = d.1;
-      ranks = c.1;
-      pushes = b.1;
-      rows = a.1;
+      me = h.0;
+      peers = h.1;
+      tables = g.1;
+      filters = f.1;
+      ranks = e.1;
+      pushes = d.1;
+      rows = c.1;
+      logs = b.1;
+      ignored = a.1;
     }
 
 -- nothing behind a list
-nils : (xs : List ConfigFault) → xs ++ [] ++ [] ++ [] ++ [] ++ [] ≡ xs
-nils xs = ap (λ l. l ++ [] ++ [] ++ [] ++ []) (append-nil xs)
-    ∙ (ap (λ l. l ++ [] ++ [] ++ []) (append-nil xs) ∙ (ap (λ l. l ++ [] ++ []) (append-nil xs)
-    ∙ (ap (λ l. l ++ []) (append-nil xs) ∙ append-nil xs)))
+nil : {xs ys : List ConfigFault} → xs ≡ ys → xs ++ [] ≡ ys
+nil {xs} is = append-nil xs ∙ is
+
+nils : (xs : List ConfigFault) → xs ++ [] ++ [] ++ [] ++ [] ++ [] ++ [] ++ [] ≡ xs
+nils xs = nil (nil (nil (nil (nil (nil (append-nil xs))))))
 
 -- the faults of one more are all, where those before have none
 each-more : {A : Type 0} (faults : List A → A → List ConfigFault) (before xs : List A) (x : A)
@@ -79,7 +87,26 @@ peers_faults config name none =
       p.ranks,
       p.pushes,
       p.rows,
+      p.logs,
+      p.ignored,
     ) (nils (peer_faults config.peers name))
+
+-- the fault of a bound on all rows is the only one
+pub rows_faults : (config : Config) (rows : ℕ) → all_faults config ≡ []
+    → all_faults (record config { rows = Some rows })
+    ≡ fault_if (not (rows_fit (Some rows))) BadSize
+rows_faults config rows none =
+    let p = parts config none in
+    rw (
+      p.me,
+      p.peers,
+      p.tables,
+      p.filters,
+      p.ranks,
+      p.pushes,
+      p.logs,
+      p.ignored,
+    ) (nil (append-nil (fault_if (not (rows_fit (Some rows))) BadSize)))
 
 -- the last of a list is taken away
 taken : {A : Type 0} (xs ys : List A) (x : A) → ys ≡ remove (xs ++ x ∷ [])

@@ -227,10 +227,12 @@ abbrev From : ℕ → List (Col × ℕ) → Type 0
 From least [] = Unit {0}
 From least (col ∷ cols) = (least ≤ col_id col.0) × From (col_id col.0 + 1) cols
 
--- the ids of the order's columns are this number and those that follow it
+-- the order has each column whose id is this number or above, and ascends
 abbrev Follows : ℕ → List Col → Type 0
-Follows first [] = Unit {0}
-Follows first (col ∷ order) = (col_id col ≡ first) × Follows (first + 1) order
+Follows next [] = (c : Col) → col_id c < next
+Follows next (col ∷ order) =
+    (next ≤ col_id col) × ((c : Col) → next ≤ col_id c → col_id col ≤ col_id c)
+    × Follows (col_id col + 1) order
 
 none_of : (least : ℕ) (col : Col) (cols : List (Col × ℕ)) → From least cols → col_id col < least
     → of_column col cols ≡ []
@@ -245,39 +247,31 @@ passed : (next : ℕ) (order : List Col) (first : Col × ℕ) (cols : List (Col 
     → ordered_by order (first ∷ cols) ≡ ordered_by order cols
 passed next [] first cols follows below = refl
 passed next (col ∷ order) first cols follows below =
+    let least : next ≤ col_id col = follows.0 in
     let other : eqb (col_id first.0) (col_id col) ≡ false =
-    ne_eqb (col_id first.0) (col_id col) (λ e. omega (arith, e, follows.0, below)) in
+    ne_eqb (col_id first.0) (col_id col) (λ e. omega (arith, e, least, below)) in
     rw other (ap (λ rest. of_column col cols ++ rest)
-    (passed (next + 1) order first cols follows.1 (omega (arith, below))))
+    (passed (col_id col + 1) order first cols follows.2 (omega (arith, least, below))))
 
 ordered : (next : ℕ) (order : List Col) (cols : List (Col × ℕ)) → Follows next order
-    → From next cols → ((col : Col) → col_id col < next + length order)
-    → ordered_by order cols ≡ cols
-ordered next [] [] follows from within = refl
-ordered next [] (first ∷ cols) follows from within =
-    absurd (omega (arith, from.0, within first.0))
-ordered next (col ∷ order) [] follows from within =
-    ordered (next + 1) order [] follows.1 tt (λ c. omega (arith, within c))
-ordered next (col ∷ order) (first ∷ cols) follows from within =
+    → From next cols → ordered_by order cols ≡ cols
+ordered next [] [] follows from = refl
+ordered next [] (first ∷ cols) follows from = absurd (omega (arith, from.0, follows first.0))
+ordered next (col ∷ order) [] follows from = ordered (col_id col + 1) order [] follows.2 tt
+ordered next (col ∷ order) (first ∷ cols) follows from =
     elim (cases_Bool (eqb (col_id first.0) (col_id col))) [
       | inl same ↦
           let is : col_id first.0 ≡ col_id col = eqb-true _ _ same in
           rw (same, none_of (col_id first.0 + 1) col cols from.1 (omega (arith, is)))
           (ap (λ rest. first ∷ rest)
-          (passed (next + 1) order first cols follows.1 (omega (arith, is, follows.0))
-          ∙ ordered (next + 1) order cols follows.1
-          (again (col_id first.0 + 1) (next + 1) cols (omega (arith, is, follows.0)) from.1)
-          (λ c. omega (arith, within c))))
+          (passed (col_id col + 1) order first cols follows.2 (omega (arith, is))
+          ∙ ordered (col_id col + 1) order cols follows.2
+          (again (col_id first.0 + 1) (col_id col + 1) cols (omega (arith, is)) from.1)))
       | inr other ↦
-          let above : next + 1 ≤ col_id first.0 =
-          grind (arith, nat_tests, other, follows.0, from.0) in
-          rw (
-            other,
-            none_of (col_id first.0 + 1) col cols from.1
-                (omega (arith, follows.0, above)),
-          )
-          (ordered (next + 1) order (first ∷ cols) follows.1 (above, from.1)
-          (λ c. omega (arith, within c)))
+          let least : col_id col ≤ col_id first.0 = follows.1 first.0 from.0 in
+          let above : col_id col + 1 ≤ col_id first.0 = grind (arith, nat_tests, other, least) in
+          rw (other, none_of (col_id first.0 + 1) col cols from.1 (omega (arith, above)))
+          (ordered (col_id col + 1) order (first ∷ cols) follows.2 (above, from.1))
     ]
   where
     again : (a b : ℕ) (cols : List (Col × ℕ)) → a ≡ b → From a cols → From b cols
@@ -296,15 +290,111 @@ least_id : (col : Col) → 2 ≤ col_id col
 least_id column.Gpc0 = omega arith
 least_id col = omega arith
 
-most_id : (col : Col) → col_id col < 2 + length all_cols
+most_id : (col : Col) → col_id col < 27
 most_id column.Gpc0 = omega arith
 most_id col = omega arith
 
+-- no column has a dictionary's data type, and none that of an array
+behind_dictionary : (col : Col) → 19 ≤ col_id col → 20 ≤ col_id col
+behind_dictionary column.Gpc0 least = omega (arith, least)
+behind_dictionary col least = omega (arith, least)
+
+behind_arrays : (col : Col) → 22 ≤ col_id col → 25 ≤ col_id col
+behind_arrays column.Gpc0 least = omega (arith, least)
+behind_arrays col least = omega (arith, least)
+
 all_follow : Follows 2 all_cols
-all_follow = (refl, (refl, (refl, (refl, (refl, (refl, (refl, (refl, (refl, others)))))))))
+all_follow = (
+  omega arith,
+  λ c least. least,
+  (
+    omega arith,
+    λ c least. least,
+    (
+      omega arith,
+      λ c least. least,
+      (
+        omega arith,
+        λ c least. least,
+        (
+          omega arith,
+          λ c least. least,
+          (
+            omega arith,
+            λ c least. least,
+            (
+              omega arith,
+              λ c least. least,
+              (
+                omega arith,
+                λ c least. least,
+                (
+                  omega arith,
+                  λ c least. least,
+                  others,
+                ),
+              ),
+            ),
+          ),
+        ),
+      ),
+    ),
+  ),
+)
   where
+    newer : Follows 19 (drop 17 all_cols)
+    newer = (
+      omega arith,
+      behind_dictionary,
+      (
+        omega arith,
+        λ c least. least,
+        (
+          omega arith,
+          behind_arrays,
+          (
+            omega arith,
+            λ c least. least,
+            most_id,
+          ),
+        ),
+      ),
+    )
+
     others : Follows 11 (drop 9 all_cols)
-    others = (refl, (refl, (refl, (refl, (refl, (refl, (refl, (refl, tt))))))))
+    others = (
+      omega arith,
+      λ c least. least,
+      (
+        omega arith,
+        λ c least. least,
+        (
+          omega arith,
+          λ c least. least,
+          (
+            omega arith,
+            λ c least. least,
+            (
+              omega arith,
+              λ c least. least,
+              (
+                omega arith,
+                λ c least. least,
+                (
+                  omega arith,
+                  λ c least. least,
+                  (
+                    omega arith,
+                    λ c least. least,
+                    newer,
+                  ),
+                ),
+              ),
+            ),
+          ),
+        ),
+      ),
+    )
 
 from_ascends : (cols : List (Col × ℕ)) → ascends (map (λ col. col_id col.0) cols) ≡ true
     → From 2 cols
@@ -315,4 +405,4 @@ from_ascends (col ∷ cols) h = (least_id col.0, ascending (col_id col.0) cols h
 pub in_order_same : (cols : List (Col × ℕ)) → ascends (map (λ col. col_id col.0) cols) ≡ true
     → in_order cols ≡ cols
 unfolding in_order
-in_order_same cols h = ordered 2 all_cols cols all_follow (from_ascends cols h) most_id
+in_order_same cols h = ordered 2 all_cols cols all_follow (from_ascends cols h)

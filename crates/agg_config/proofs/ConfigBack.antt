@@ -4,12 +4,15 @@ use Rattle.std.proofs.Common.{Option, None, Some, refl, ap, subst, sym, ◌∙�
 use Rattle.std.proofs.Common.{append-nil}
 use Rattle.std.specs.Prelude.{is_none, slice_get}
 use Rattle.std.specs.List.{list_all}
-use Rattle.agg_types.specs.Check.{all_faults, config_faults, each, filter_faults}
-use Rattle.agg_types.specs.Check.{peer_faults, push_faults, rank_faults, rows_fit, table_faults}
+use Rattle.agg_types.specs.Check.{all_faults, config_faults, each, filter_faults, ignored_faults}
+use Rattle.agg_types.specs.Check.{log_faults, peer_faults, push_faults, rank_faults, rows_fit}
+use Rattle.agg_types.specs.Check.{table_faults}
 use Rattle.agg_types.specs.Name.{is_name}
 use Rattle.agg_types.specs.declared.check.ConfigFault.{ConfigFault}
 use Rattle.agg_types.specs.declared.config.Config.{Config}
 use Rattle.agg_types.specs.declared.config.Filter as Filters
+use Rattle.agg_types.specs.declared.config.Ignored.{Ignored}
+use Rattle.agg_types.specs.declared.config.Logged.{Logged}
 use Rattle.agg_types.specs.declared.config.Push as Pushes
 use Rattle.agg_types.specs.declared.config.Rank as Ranks
 use Rattle.agg_types.specs.declared.config.Shape.{Shape}
@@ -23,10 +26,10 @@ use Rattle.line_words.specs.Conditions.{have_bounds}
 use Rattle.agg_config.specs.Written.{filter_of, is_valid, is_valid_table, rank_of}
 use Rattle.agg_config.specs.Written.{rows_declared, table_name, text_of}
 use Rattle.agg_config.specs.declared.declarations.Declaration.{Declaration}
-use Rattle.agg_config.specs.declared.declarations.Declaration.TheVariants.{Me, Peer, Push, Rows}
-use Rattle.agg_config.specs.declared.declarations.Declaration.TheVariants.{Table}
+use Rattle.agg_config.specs.declared.declarations.Declaration.TheVariants.{Me, Peer, Push}
+use Rattle.agg_config.specs.declared.declarations.Declaration.TheVariants.{Table, Log, Ignore}
 use Rattle.agg_config.proofs.Finished.{read_none}
-use Rattle.agg_config.proofs.Pushing.{named_filter, push_fits}
+use Rattle.agg_config.proofs.Pushing.{ignored_named, log_named, named_filter, push_fits}
 use Rattle.agg_config.proofs.TextBack.{Lead, text_back}
 
 -- ---- lists of faults
@@ -131,31 +134,63 @@ with_peers me peers = record {
   ranks = [];
   pushes = [];
   rows = None;
+  logs = [];
+  ignored = [];
 }
 
 abbrev with_tables : Config → List Shape → Config
-with_tables config tables =
-    record config { tables = tables; filters = []; ranks = []; pushes = []; rows = None }
+with_tables config tables = record config {
+  tables = tables;
+  filters = [];
+  ranks = [];
+  pushes = [];
+  rows = None;
+  logs = [];
+  ignored = [];
+}
 
 abbrev with_filters : Config → List Filters.Filter → Config
-with_filters config filters =
-    record config { filters = filters; ranks = []; pushes = []; rows = None }
+with_filters config filters = record config {
+  filters = filters;
+  ranks = [];
+  pushes = [];
+  rows = None;
+  logs = [];
+  ignored = [];
+}
 
 abbrev with_ranks : Config → List Ranks.Rank → Config
-with_ranks config ranks = record config { ranks = ranks; pushes = []; rows = None }
+with_ranks config ranks =
+    record config { ranks = ranks; pushes = []; rows = None; logs = []; ignored = [] }
 
 abbrev with_pushes : Config → List Pushes.Push → Config
-with_pushes config pushes = record config { pushes = pushes; rows = None }
+with_pushes config pushes =
+    record config { pushes = pushes; rows = None; logs = []; ignored = [] }
 
--- what is followed and what is pushed has no fault, nor has a bound that isn't there
-none_pushed : (config : Config) → Faultless config → config.pushes ≡ [] → config.rows ≡ None
-    → all_faults config ≡ []
-none_pushed config h none unbound = rw (no_faults config h, none, unbound) refl
+abbrev with_logs : Config → List Logged → Config
+with_logs config logs = record config { logs = logs; ignored = [] }
 
-all_pushed : (config : Config) → Faultless config
-    → each (push_faults config.tables config.filters) [] config.pushes ≡ []
-    → config.rows ≡ None → all_faults config ≡ []
-all_pushed config h none unbound = rw (no_faults config h, none, unbound) refl
+abbrev with_ignored : Config → List Ignored → Config
+with_ignored config ignored = record config { ignored = ignored }
+
+-- what stands behind the ranked lists has no fault
+record Behind (config : Config) : Type 0 where
+  pub pushes : each (push_faults config.tables config.filters) [] config.pushes ≡ []
+  pub rows : rows_fit config.rows ≡ true
+  pub logs : each (log_faults config.filters) [] config.logs ≡ []
+  pub ignored : each (ignored_faults config.tables) [] config.ignored ≡ []
+
+nothing_behind : (config : Config) → config.pushes ≡ [] → config.rows ≡ None
+    → config.logs ≡ [] → config.ignored ≡ [] → Behind config
+nothing_behind config pushes rows logs ignored = record {
+  pushes = rw pushes refl;
+  rows = rw rows refl;
+  logs = rw logs refl;
+  ignored = rw ignored refl;
+}
+
+all_none : (config : Config) → Faultless config → Behind config → all_faults config ≡ []
+all_none config h b = rw (no_faults config h, b.pushes, b.rows, b.logs, b.ignored) refl
 
 peers_section : (me : List ℕ) → is_name me ≡ true
     → Section (with_peers me) Peer peer_faults (λ name. true)
@@ -164,13 +199,13 @@ peers_section me is = record {
   other = λ name. refl;
   once = λ before name. refl;
   makes = λ before name none. refl;
-  faultless = λ peers none. none_pushed (with_peers me peers) (record {
+  faultless = λ peers none. all_none (with_peers me peers) (record {
     me = is;
     peers = none;
     tables = refl;
     filters = refl;
     ranks = refl;
-  }) refl refl;
+  }) (nothing_behind _ refl refl refl refl);
 }
 
 tables_section : (config : Config) → Faultless config
@@ -180,13 +215,13 @@ tables_section config h = record {
   other = λ shape. refl;
   once = λ before shape. refl;
   makes = λ before shape none. refl;
-  faultless = λ tables none. none_pushed (with_tables config tables) (record {
+  faultless = λ tables none. all_none (with_tables config tables) (record {
     me = h.me;
     peers = h.peers;
     tables = none;
     filters = refl;
     ranks = refl;
-  }) refl refl;
+  }) (nothing_behind _ refl refl refl refl);
 }
 
 filter_valid : (tables : List Shape) (before : List Filters.Filter) (filter : Filters.Filter)
@@ -234,13 +269,13 @@ filters_section config h = record {
   other = λ filter. refl;
   once = λ before filter. refl;
   makes = λ before filter none. filter_makes config before filter h.tables none;
-  faultless = λ filters none. none_pushed (with_filters config filters) (record {
+  faultless = λ filters none. all_none (with_filters config filters) (record {
     me = h.me;
     peers = h.peers;
     tables = h.tables;
     filters = none;
     ranks = refl;
-  }) refl refl;
+  }) (nothing_behind _ refl refl refl refl);
 }
 
 ranks_section : (config : Config) → Faultless config
@@ -251,13 +286,13 @@ ranks_section config h = record {
   other = λ rank. refl;
   once = λ before rank. refl;
   makes = λ before rank none. rank_makes config before rank h.tables none;
-  faultless = λ ranks none. none_pushed (with_ranks config ranks) (record {
+  faultless = λ ranks none. all_none (with_ranks config ranks) (record {
     me = h.me;
     peers = h.peers;
     tables = h.tables;
     filters = h.filters;
     ranks = none;
-  }) refl refl;
+  }) (nothing_behind _ refl refl refl refl);
 }
 
 -- a push whose filter is named by that name has a name that may stand
@@ -275,45 +310,99 @@ pushes_section config h = record {
   other = λ push. refl;
   once = λ before push. refl;
   makes = λ before push none. refl;
-  faultless = λ pushes none. all_pushed (with_pushes config pushes) (record {
+  faultless = λ pushes none. all_none (with_pushes config pushes) (record {
     me = h.me;
     peers = h.peers;
     tables = h.tables;
     filters = h.filters;
     ranks = h.ranks;
-  }) none refl;
+  }) (record { pushes = none; rows = refl; logs = refl; ignored = refl });
 }
 
--- what is declared last is the bound on all rows
-rows_lead : (config : Config) (rows : Option ℕ) → config.rows ≡ rows → all_faults config ≡ []
-    → rows_fit rows ≡ true → Lead (with_pushes config config.pushes) (rows_declared rows) config
-rows_lead config None is none fits = ap (λ rows. record config { rows = rows }) (sym is)
-rows_lead config (Some rows) is none fits =
-    let same : record config { rows = Some rows } ≡ config =
-    ap (λ rows. record config { rows = rows }) (sym is) in (
+-- a bound on all rows, where there is one, is declared behind what is pushed
+rows_lead : (config : Config) (rows : Option ℕ) (rest : List Declaration) (after : Config)
+    → config.rows ≡ rows → rows_fit rows ≡ true → all_faults (with_logs config []) ≡ []
+    → Lead (with_logs config []) rest after
+    → Lead (with_pushes config config.pushes) (rows_declared rows ++ rest) after
+rows_lead config None rest after is fits none lead =
+    subst (λ c. Lead c rest after)
+    (ap (λ rows. record config { rows = rows; logs = []; ignored = [] }) is) lead
+rows_lead config (Some rows) rest after is fits none lead =
+    let same : with_logs config [] ≡ record config { rows = Some rows; logs = []; ignored = [] } =
+    ap (λ rows. record config { rows = rows; logs = []; ignored = [] }) is in (
       record {
         valid = fits;
         other = refl;
         once = refl;
-        faultless = ap all_faults same ∙ none;
+        faultless = ap all_faults (sym same) ∙ none;
       },
-      same,
+      subst (λ c. Lead c rest after) same lead,
     )
 
-behind_name : (config : Config) → Faultless config
-    → each (push_faults config.tables config.filters) [] config.pushes ≡ []
-    → Lead (with_pushes config config.pushes) (rows_declared config.rows) config
+logs_section : (config : Config) → Faultless config → Behind config
+    → Section (with_logs config) Log (log_faults config.filters) (λ logged. true)
+logs_section config h b = record {
+  valid = λ before logged fine none. named_filter config.tables config.filters logged.filter
+      h.filters (log_named config.filters before logged none);
+  other = λ logged. refl;
+  once = λ before logged. refl;
+  makes = λ before logged none. refl;
+  faultless = λ logs none. all_none (with_logs config logs) (record {
+    me = h.me;
+    peers = h.peers;
+    tables = h.tables;
+    filters = h.filters;
+    ranks = h.ranks;
+  }) (record { pushes = b.pushes; rows = b.rows; logs = none; ignored = refl });
+}
+
+ignored_section : (config : Config) → Faultless config → Behind config
+    → Section (with_ignored config) Ignore (ignored_faults config.tables) (λ ignored. true)
+ignored_section config h b = record {
+  valid = λ before ignored fine none. ignored_named config.tables before ignored none;
+  other = λ ignored. refl;
+  once = λ before ignored. refl;
+  makes = λ before ignored none. refl;
+  faultless = λ ignored none. all_none (with_ignored config ignored) (record {
+    me = h.me;
+    peers = h.peers;
+    tables = h.tables;
+    filters = h.filters;
+    ranks = h.ranks;
+  }) (record { pushes = b.pushes; rows = b.rows; logs = b.logs; ignored = none });
+}
+
+-- what is logged and what is ignored stands last
+last_lead : (config : Config) → Faultless config → Behind config
+    → Lead (with_logs config []) (map Log config.logs ++ map Ignore config.ignored) config
+last_lead config h b =
+    let ignored : Lead (with_ignored config []) (map Ignore config.ignored ++ []) config =
+    section (with_ignored config) Ignore (ignored_faults config.tables) (λ ignored. true)
+    (ignored_section config h b) [] config.ignored [] config (all_fine config.ignored) b.ignored
+    refl in
+    section (with_logs config) Log (log_faults config.filters) (λ logged. true)
+    (logs_section config h b) [] config.logs (map Ignore config.ignored) config
+    (all_fine config.logs) b.logs
+    (subst (λ l. Lead (with_ignored config []) l config)
+    (append-nil (map Ignore config.ignored)) ignored)
+
+behind_ranks : (config : Config) → Faultless config → Behind config
+    → Lead (with_pushes config []) (map Push config.pushes ++ (rows_declared config.rows
+    ++ (map Log config.logs ++ map Ignore config.ignored))) config
+behind_ranks config h b =
+    section (with_pushes config) Push (push_faults config.tables config.filters) (λ push. true)
+    (pushes_section config h) [] config.pushes _ config (all_fine config.pushes) b.pushes
+    (rows_lead config config.rows _ config refl b.rows
+    ((logs_section config h b).faultless [] refl) (last_lead config h b))
+
+behind_name : (config : Config) → Faultless config → Behind config
     → list_all (λ filter. have_bounds filter.conds) config.filters ≡ true
     → Lead (with_peers config.me []) (map Peer config.peers ++ (map Table config.tables
     ++ (map (filter_of config.tables) config.filters
     ++ (map (rank_of config.tables) config.ranks
-    ++ (map Push config.pushes ++ rows_declared config.rows))))) config
-behind_name config h pushed last bounds =
-    let pushes : Lead (with_pushes config []) (map Push config.pushes
-    ++ rows_declared config.rows) config =
-    section (with_pushes config) Push (push_faults config.tables config.filters) (λ push. true)
-    (pushes_section config h) [] config.pushes (rows_declared config.rows) config
-    (all_fine config.pushes) pushed last in
+    ++ (map Push config.pushes ++ (rows_declared config.rows
+    ++ (map Log config.logs ++ map Ignore config.ignored))))))) config
+behind_name config h b bounds =
     section (with_peers config.me) Peer peer_faults (λ name. true)
     (peers_section config.me h.me) [] config.peers _ config (all_fine config.peers) h.peers
     (section (with_tables config) Table table_faults (λ shape. true) (tables_section config h) []
@@ -323,21 +412,23 @@ behind_name config h pushed last bounds =
     bounds h.filters
     (section (with_ranks config) (rank_of config.tables) (rank_faults config.tables)
     (λ rank. true) (ranks_section config h) [] config.ranks _ config (all_fine config.ranks)
-    h.ranks pushes)))
+    h.ranks (behind_ranks config h b))))
 
 pub config_back : (config : Config) → all_faults config ≡ []
     → list_all (λ filter. have_bounds filter.conds) config.filters ≡ true
     → Write (lines_of (text_of config)) config
 config_back config none bounds =
-    let whole = both_none _ _ none in
-    let parts = both_none (config_faults config) _ whole.0 in
-    let h = faultless config parts.0 in
-    let last = rows_lead config config.rows refl none (not_not _ (no_fault _ _ whole.1)) in
+    let ignored = both_none _ _ none in
+    let logs = both_none _ _ ignored.0 in
+    let rows = both_none _ _ logs.0 in
+    let pushes = both_none (config_faults config) _ rows.0 in
+    let h = faultless config pushes.0 in
+    let b : Behind config = record {
+      pushes = pushes.1;
+      rows = not_not _ (no_fault _ _ rows.1);
+      logs = logs.1;
+      ignored = ignored.1;
+    } in
     text_back (with_peers config.me []) opening (Me config.me) _ config (read_none opening refl)
-    refl h.me refl refl (none_pushed (with_peers config.me []) (record {
-      me = h.me;
-      peers = refl;
-      tables = refl;
-      filters = refl;
-      ranks = refl;
-    }) refl refl) (behind_name config h parts.1 last bounds)
+    refl h.me refl refl ((peers_section config.me h.me).faultless [] refl)
+    (behind_name config h b bounds)

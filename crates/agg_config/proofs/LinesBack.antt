@@ -1,7 +1,7 @@
 -- What a line declares is read back from the line that is written of it.
 use Rattle.std.proofs.Common.{◌&&◌}
 use Rattle.std.proofs.Common.{◌≡◌, ℕ, zero, suc, ◌+◌, ◌^◌, ◌<◌, ◌≤◌, true, false, eqb, leb}
-use Rattle.std.proofs.Common.{ltb, List, [], ◌∷◌, ◌++◌, length, map, Option, None, Some, Result}
+use Rattle.std.proofs.Common.{List, [], ◌∷◌, ◌++◌, length, map, Option, None, Some, Result}
 use Rattle.std.proofs.Common.{Ok}
 use Rattle.std.proofs.Common.{codes, refl, arith}
 use Rattle.std.proofs.lemmas.Bool.{leb-true, ltb-true, ne_eqb}
@@ -23,8 +23,9 @@ use Rattle.agg_types.specs.declared.limits.TheConstants.{SHORTEST_HOLD}
 use Rattle.line_words.specs.Operators.{operator_word}
 use Rattle.line_words.specs.Words.{are_comment}
 use Rattle.line_words.specs.declared.misread.Misread.{Misread}
-use Rattle.agg_config.specs.Declarations.{declared, filter_line, hold, keep, key_kind}
-use Rattle.agg_config.specs.Declarations.{line_declaration, me_line, number_behind, peer_line}
+use Rattle.agg_config.specs.Declarations.{declared, filter_line, hold, ignore_line, keep, key_kind}
+use Rattle.agg_config.specs.Declarations.{line_declaration, log_line, me_line, number_behind}
+use Rattle.agg_config.specs.Declarations.{peer_line}
 use Rattle.agg_config.specs.Declarations.{push_line, rank_line, rows_line, shape, table_line}
 use Rattle.agg_config.specs.Filters.{condition, conditions, known_bound}
 use Rattle.agg_config.specs.ReadResults.{read_each}
@@ -35,11 +36,12 @@ use Rattle.agg_config.specs.Written.{words_of}
 use Rattle.agg_config.specs.declared.declarations.Declaration.{Declaration}
 use Rattle.agg_config.specs.declared.declarations.Declaration.TheVariants.{Me, Peer, Table, Filter}
 use Rattle.agg_config.specs.declared.declarations.Declaration.TheVariants.{Rank, Push, Rows}
+use Rattle.agg_config.specs.declared.declarations.Declaration.TheVariants.{Log, Ignore}
 use Rattle.agg_config.proofs.ColumnsBack.{in_order_same, periods_back, store_are_words}
 use Rattle.agg_config.proofs.ColumnsBack.{stored_back}
 use Rattle.line_words.proofs.ConditionsBack.{bound_fits, conditions_are_words}
-use Rattle.line_words.proofs.NamesBack.{column_back, column_is_word, data_back, data_is_word}
-use Rattle.line_words.proofs.NamesBack.{operator_back, operator_is_word}
+use Rattle.line_words.proofs.NamesBack.{column_back, column_is_word, data_back}
+use Rattle.line_words.proofs.NamesBack.{operator_back}
 use Rattle.line_words.proofs.WordsBack.{both, is_word, name_is_word, number_back, number_is_word}
 use Rattle.line_words.proofs.WordsBack.{words_back}
 
@@ -68,6 +70,20 @@ peer_read : (name : List ℕ)
     → line_declaration (record { number = 1; words = words_of (Peer name) }) ≡ Ok (Peer name)
 unfolding line_declaration peer_line
 peer_read name = refl
+
+log_read : (filter : List ℕ) → line_declaration (record {
+  number = 1;
+  words = words_of (Log (record { filter = filter }));
+}) ≡ Ok (Log (record { filter = filter }))
+unfolding line_declaration log_line
+log_read filter = refl
+
+ignore_read : (table : List ℕ) → line_declaration (record {
+  number = 1;
+  words = words_of (Ignore (record { table = table }));
+}) ≡ Ok (Ignore (record { table = table }))
+unfolding line_declaration ignore_line
+ignore_read table = refl
 
 -- ---- ranked lists
 
@@ -296,6 +312,8 @@ line_words (Push push) valid =
     let two = both (is_name push.name) (hold_fits push.hold) valid in
     push_words push.name push.hold two.0 two.1
 line_words (Rows n) valid = rw (number_is_word n (rows_below n valid)) refl
+line_words (Log logged) valid = rw (name_is_word logged.filter valid) refl
+line_words (Ignore ignored) valid = rw (name_is_word ignored.table valid) refl
 
 line_read : (declaration : Declaration) → is_valid declaration ≡ true
     → line_declaration (record { number = 1; words = words_of declaration }) ≡ Ok declaration
@@ -316,6 +334,8 @@ line_read (Push push) valid =
     let two = both (is_name push.name) (hold_fits push.hold) valid in
     push_read push.name push.hold two.1
 line_read (Rows n) valid = rows_read n (rows_below n valid)
+line_read (Log logged) valid = log_read logged.filter
+line_read (Ignore ignored) valid = ignore_read ignored.table
 
 says_something : (declaration : Declaration) → are_comment (words_of declaration) ≡ false
 says_something (Me name) = refl
@@ -325,6 +345,8 @@ says_something (Filter name table conds) = refl
 says_something (Rank name table col n) = refl
 says_something (Push push) = refl
 says_something (Rows n) = refl
+says_something (Log logged) = refl
+says_something (Ignore ignored) = refl
 
 pub line_back : (declaration : Declaration) → is_valid declaration ≡ true
     → declared (declaration_line declaration) ≡ Ok (Some declaration)

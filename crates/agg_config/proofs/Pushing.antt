@@ -1,10 +1,13 @@
--- What a pushed filter without faults has.
+-- What a pushed filter, a logged one and an ignored table without faults have.
 use Rattle.std.proofs.Common.{◌≡◌, ◌||◌, ℕ, Bool, true, false, List, [], ◌∷◌, ◌++◌, refl, subst}
 use Rattle.std.specs.List.{list_any}
 use Rattle.std.specs.Str.{bytes_eq}
-use Rattle.agg_types.specs.Check.{each, filter_faults, hold_fits, push_faults}
+use Rattle.agg_types.specs.Check.{each, filter_faults, hold_fits, ignored_faults, log_faults}
+use Rattle.agg_types.specs.Check.{push_faults}
 use Rattle.agg_types.specs.Name.{is_name}
 use Rattle.agg_types.specs.declared.config.Filter.{Filter}
+use Rattle.agg_types.specs.declared.config.Ignored.{Ignored}
+use Rattle.agg_types.specs.declared.config.Logged.{Logged}
 use Rattle.agg_types.specs.declared.config.Push.{Push}
 use Rattle.agg_types.specs.declared.config.Shape.{Shape}
 use Rattle.line_words.proofs.Checked.{both_none, filter_fits, no_fault, not_not}
@@ -25,6 +28,21 @@ push_fits tables filters before push none =
       named = not_not _ (no_fault _ _ b.1);
       hold = not_not (hold_fits push.hold) (no_fault _ _ a.1);
     }
+
+-- a logged filter is there
+pub log_named : (filters : List Filter) (before : List Logged) (logged : Logged)
+    → log_faults filters before logged ≡ []
+    → list_any (λ filter. bytes_eq filter.name logged.filter) filters ≡ true
+unfolding log_faults
+log_named filters before logged none = not_not _ (no_fault _ _ (both_none _ _ none).1)
+
+-- an ignored table has a name
+pub ignored_named : (tables : List Shape) (before : List Ignored) (ignored : Ignored)
+    → ignored_faults tables before ignored ≡ [] → is_name ignored.table ≡ true
+unfolding ignored_faults
+ignored_named tables before ignored none =
+    let a = both_none _ _ none in
+    not_not (is_name ignored.table) (no_fault _ _ (both_none _ _ a.0).1)
 
 -- a name that is this one's, or else another's, may stand
 named_by : (filter : Filter) (name : List ℕ) (here : Bool) → bytes_eq filter.name name ≡ here

@@ -19,6 +19,7 @@ use Rattle.agg_config.specs.ReadResults.{read_each}
 use Rattle.agg_config.specs.declared.declarations.Declaration.{Declaration}
 use Rattle.agg_config.specs.declared.declarations.Declaration.TheVariants.{Me, Peer, Table, Filter}
 use Rattle.agg_config.specs.declared.declarations.Declaration.TheVariants.{Rank, Push, Rows}
+use Rattle.agg_config.specs.declared.declarations.Declaration.TheVariants.{Log, Ignore}
 
 -- `name <name>`, behind its first word
 unfoldable pub me_line : Left → Result Declaration Misread
@@ -145,6 +146,20 @@ rows_line left = do
   n ← n.0
   Ok (Rows n)
 
+-- `log <filter>`
+unfoldable pub log_line : Left → Result Declaration Misread
+log_line left = do
+  name ← word Name left
+  none ← end name.1
+  Ok (Log (record { filter = name.0 }))
+
+-- `ignore <table>`
+unfoldable pub ignore_line : Left → Result Declaration Misread
+ignore_line left = do
+  name ← word Name left
+  none ← end name.1
+  Ok (Ignore (record { table = name.0 }))
+
 -- what the words of a line declare, by the first of them, which stands at this place
 abbrev pub line_named : ℕ → List ℕ → Left → Result Declaration Misread
 line_named place kind left =
@@ -155,6 +170,8 @@ line_named place kind left =
     else if bytes_eq kind (codes "rank") then rank_line left
     else if bytes_eq kind (codes "push") then push_line left
     else if bytes_eq kind (codes "rows") then rows_line left
+    else if bytes_eq kind (codes "log") then log_line left
+    else if bytes_eq kind (codes "ignore") then ignore_line left
     else Err (wrong place Keyword)
 
 unfoldable pub line_declaration : Left → Result Declaration Misread

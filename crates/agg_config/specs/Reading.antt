@@ -29,6 +29,7 @@ use Rattle.agg_config.specs.declared.causes.Wrong.{Wrong}
 use Rattle.agg_config.specs.declared.declarations.Declaration.{Declaration}
 use Rattle.agg_config.specs.declared.declarations.Declaration.TheVariants.{Me, Peer, Table, Filter}
 use Rattle.agg_config.specs.declared.declarations.Declaration.TheVariants.{Rank, Push, Rows}
+use Rattle.agg_config.specs.declared.declarations.Declaration.TheVariants.{Log, Ignore}
 
 -- the position of the table of this name; past the last where there is none
 abbrev pub table_at : List Shape → List ℕ → ℕ
@@ -50,6 +51,8 @@ declaring config (Rank name table col n) =
     record config { ranks = config.ranks ++ rank ∷ [] }
 declaring config (Push push) = record config { pushes = config.pushes ++ push ∷ [] }
 declaring config (Rows n) = record config { rows = Some n }
+declaring config (Log logged) = record config { logs = config.logs ++ logged ∷ [] }
+declaring config (Ignore ignored) = record config { ignored = config.ignored ++ ignored ∷ [] }
 
 -- whether it is the collector's name
 abbrev pub is_me : Declaration → Bool
@@ -60,6 +63,8 @@ is_me (Filter name table conds) = false
 is_me (Rank name table col n) = false
 is_me (Push push) = false
 is_me (Rows n) = false
+is_me (Log logged) = false
+is_me (Ignore ignored) = false
 
 -- whether it bounds all rows where a line before it did
 abbrev pub bounds_again : Config → Declaration → Bool
@@ -70,6 +75,8 @@ bounds_again config (Filter name table conds) = false
 bounds_again config (Rank name table col n) = false
 bounds_again config (Push push) = false
 bounds_again config (Rows n) = is_some config.rows
+bounds_again config (Log logged) = false
+bounds_again config (Ignore ignored) = false
 
 -- a cause's name
 abbrev pub cause_name : LineCause → List ℕ
@@ -142,6 +149,8 @@ opening = record {
   ranks = [];
   pushes = [];
   rows = None;
+  logs = [];
+  ignored = [];
 }
 
 -- what lines write

@@ -21,6 +21,7 @@ use Rattle.line_words.specs.Conditions.{condition_words, have_bounds}
 use Rattle.agg_config.specs.declared.declarations.Declaration.{Declaration}
 use Rattle.agg_config.specs.declared.declarations.Declaration.TheVariants.{Me, Peer, Table, Filter}
 use Rattle.agg_config.specs.declared.declarations.Declaration.TheVariants.{Rank, Push, Rows}
+use Rattle.agg_config.specs.declared.declarations.Declaration.TheVariants.{Log, Ignore}
 
 -- `len` and a length, where there is one
 abbrev pub length_words : Option ℕ → List (List ℕ)
@@ -62,6 +63,8 @@ words_of (Filter name table conds) = codes "filter" ∷ name ∷ table ∷ flat_
 words_of (Rank name table col n) = codes "rank" ∷ name ∷ table ∷ col_name col ∷ decimal n ∷ []
 words_of (Push push) = codes "push" ∷ push.name ∷ hold_words push.hold
 words_of (Rows n) = codes "rows" ∷ decimal n ∷ []
+words_of (Log logged) = codes "log" ∷ logged.filter ∷ []
+words_of (Ignore ignored) = codes "ignore" ∷ ignored.table ∷ []
 
 -- the line: its words, with one space between them
 abbrev pub declaration_line : Declaration → List ℕ
@@ -84,6 +87,8 @@ is_valid (Filter name table conds) = is_name name && is_name table
 is_valid (Rank name table col n) = is_name name && is_name table && is_within n LONGEST_RANK
 is_valid (Push push) = is_name push.name && hold_fits push.hold
 is_valid (Rows n) = is_within n MOST_ROWS
+is_valid (Log logged) = is_name logged.filter
+is_valid (Ignore ignored) = is_name ignored.table
 
 -- the name of the table at a position
 abbrev pub table_name : List Shape → ℕ → List ℕ
@@ -103,12 +108,13 @@ rows_declared None = []
 rows_declared (Some n) = Rows n ∷ []
 
 -- what a configuration declares: its name, then peers, tables, filters, ranked lists, what it
--- pushes, and its bound on all rows
+-- pushes, its bound on all rows, what it logs, and what it ignores
 abbrev pub declarations_of : Config → List Declaration
 declarations_of config = Me config.me ∷ (map Peer config.peers ++ (map Table config.tables
     ++ (map (filter_of config.tables) config.filters
     ++ (map (rank_of config.tables) config.ranks
-    ++ (map Push config.pushes ++ rows_declared config.rows)))))
+    ++ (map Push config.pushes ++ (rows_declared config.rows
+    ++ (map Log config.logs ++ map Ignore config.ignored)))))))
 
 -- the text of a configuration: a line for each, ended by LF
 abbrev pub text_of : Config → List ℕ

@@ -2,8 +2,9 @@
 
 ghost use Rattle.std.specs.Prelude.{◌≡◌, ◌||◌, true, Err, is_ok};
 ghost use Rattle.line_words.specs.Reader.{Reads};
-ghost use Rattle.agg_config.specs.Declarations.{declared, filter_line, hold, keep, key_kind};
-ghost use Rattle.agg_config.specs.Declarations.{line_declaration, me_line, number_behind};
+ghost use Rattle.agg_config.specs.Declarations.{declared, filter_line, hold, ignore_line, keep};
+ghost use Rattle.agg_config.specs.Declarations.{key_kind, line_declaration, log_line, me_line};
+ghost use Rattle.agg_config.specs.Declarations.{number_behind};
 ghost use Rattle.agg_config.specs.Declarations.{peer_line, push_line, rank_line, rows_line, shape};
 ghost use Rattle.agg_config.specs.Declarations.{some_behind, table_line, type_of};
 ghost use Rattle.agg_config.specs.ReadResults.{Gives, GivesWhole};
@@ -13,11 +14,12 @@ ghost use Rattle.agg_config.specs.declared.causes.Unread.TheVariants.{NoMemory a
 use crate::Unread;
 use crate::columns::{Stored, in_order, known_periods, stored};
 use crate::filters::{conditions, known_bounds};
-use agg_types::{Col, Cond, Items, KeyKind, Name, Push, Shape};
+use agg_types::{Col, Cond, Ignored, Items, KeyKind, Logged, Name, Push, Shape};
 use line_words::{Expected, Misread, Words, is_comment};
 use std::alloc::Global;
 
-/// What a line declares. A filter and a ranked list name their table, a push its filter.
+/// What a line declares. A filter and a ranked list name their table, a push and a log their
+/// filter.
 #[derive(Drop)]
 pub(crate) enum Declaration {
     Me(Name),
@@ -36,6 +38,8 @@ pub(crate) enum Declaration {
     },
     Push(Push),
     Rows(u64),
+    Log(Logged),
+    Ignore(Ignored),
 }
 
 /// What a line declares, or nothing where it is blank or a comment.
@@ -73,6 +77,10 @@ fn line_declaration(alloc: Global, words: &mut Words<'_>) -> Result<Declaration,
         push_line(alloc, words)
     } else if kind == b"rows".as_slice() {
         Ok(rows_line(words)?)
+    } else if kind == b"log".as_slice() {
+        log_line(alloc, words)
+    } else if kind == b"ignore".as_slice() {
+        ignore_line(alloc, words)
     } else {
         Err(Unread::Misread(Misread::wrong(place, Expected::Keyword)))
     }
@@ -257,4 +265,26 @@ fn rows_line(words: &mut Words<'_>) -> Result<Declaration, Misread>
     let rows = words.number()?;
     words.end()?;
     Ok(Declaration::Rows(rows?))
+}
+
+#[tactic(auto, unfolding(crate::specs::Declarations::log_line))]
+fn log_line(alloc: Global, words: &mut Words<'_>) -> Result<Declaration, Unread>
+    ensures { GivesWhole (λ x. x) result (log_line words.old) }
+{
+    let name = words.word(Expected::Name)?;
+    words.end()?;
+    Ok(Declaration::Log(Logged {
+        filter: Name::copy(alloc, name)?,
+    }))
+}
+
+#[tactic(auto, unfolding(crate::specs::Declarations::ignore_line))]
+fn ignore_line(alloc: Global, words: &mut Words<'_>) -> Result<Declaration, Unread>
+    ensures { GivesWhole (λ x. x) result (ignore_line words.old) }
+{
+    let name = words.word(Expected::Name)?;
+    words.end()?;
+    Ok(Declaration::Ignore(Ignored {
+        table: Name::copy(alloc, name)?,
+    }))
 }

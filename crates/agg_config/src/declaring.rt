@@ -11,13 +11,15 @@ ghost use Rattle.agg_config.specs.declared.declarations.Declaration.TheVariants.
 ghost use Rattle.agg_config.specs.declared.declarations.Declaration.TheVariants.{Filter as Filters};
 ghost use Rattle.agg_config.specs.declared.declarations.Declaration.TheVariants.{Rank as Ranks};
 ghost use Rattle.agg_config.specs.declared.declarations.Declaration.TheVariants.{Push as Pushes};
-ghost use Rattle.agg_config.specs.declared.declarations.Declaration.TheVariants.{Rows};
+ghost use Rattle.agg_config.specs.declared.declarations.Declaration.TheVariants.{Rows, Log, Ignore};
 
 use crate::LineCause;
 use crate::causes::Wrong;
 use crate::declarations::Declaration;
 use agg_types::limits::{MOST_PEERS, MOST_ROWS};
-use agg_types::{Config, ConfigFault, Declared, Filter, Name, Named, Push, Rank, Shape};
+use agg_types::{
+    Config, ConfigFault, Declared, Filter, Ignored, Logged, Name, Named, Push, Rank, Shape,
+};
 
 /// Puts a declaration behind the others, where it goes with them. Else they stay as they were: so
 /// the next line is judged at no more cost behind a faulty one.
@@ -52,6 +54,8 @@ pub(crate) fn declare(config: &mut Config, declaration: Declaration) -> Result<(
         }
         Declaration::Push(push) => declare_push(config, push),
         Declaration::Rows(rows) => declare_rows(config, rows),
+        Declaration::Log(logged) => declare_log(config, logged),
+        Declaration::Ignore(ignored) => declare_ignored(config, ignored),
     }
 }
 
@@ -159,6 +163,34 @@ fn declare_push(config: &mut Config, push: Push) -> Result<(), Wrong>
         Ok(()) => Ok(()),
         Err(fault) => {
             take_last(&mut config.pushes);
+            Err(wrong_check(fault))
+        }
+    }
+}
+
+fn declare_log(config: &mut Config, logged: Logged) -> Result<(), Wrong>
+    ensures { Puts config.old (record config.old { logs = config.old.logs ++ logged ∷ [] })
+        result config.new }
+{
+    config.logs.push(logged)?;
+    match config.check() {
+        Ok(()) => Ok(()),
+        Err(fault) => {
+            take_last(&mut config.logs);
+            Err(wrong_check(fault))
+        }
+    }
+}
+
+fn declare_ignored(config: &mut Config, ignored: Ignored) -> Result<(), Wrong>
+    ensures { Puts config.old (record config.old { ignored = config.old.ignored ++ ignored ∷ [] })
+        result config.new }
+{
+    config.ignored.push(ignored)?;
+    match config.check() {
+        Ok(()) => Ok(()),
+        Err(fault) => {
+            take_last(&mut config.ignored);
             Err(wrong_check(fault))
         }
     }

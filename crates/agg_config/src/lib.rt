@@ -1,5 +1,5 @@
 //! A collector's configuration, read from its text: `name`, `peer`, `table`, `filter`, `rank`,
-//! `push` and `rows` lines.
+//! `push`, `rows`, `log` and `ignore` lines.
 //!
 //! For the programs, which read it before they serve or replay. `read` answers the configuration
 //! that the text writes, or the first faulty line with what is wrong with it, exactly; `Reader`

@@ -95,7 +95,8 @@ fn second_fault(declaration: &Declaration) -> Wrong
     }
 }
 
-/// No peer, table, filter, ranked list, push or bound, under a name that isn't the collector's yet.
+/// No peer, table, filter, ranked list, push, bound, log or ignored table, under a name that isn't
+/// the collector's yet.
 pub(crate) fn opening(alloc: Global) -> Result<Config, NoMemory>
     ensures { IfOk result (λ config. config ≡ opening) }
 {
@@ -107,6 +108,8 @@ pub(crate) fn opening(alloc: Global) -> Result<Config, NoMemory>
         ranks: Declared::new(alloc),
         pushes: Declared::new(alloc),
         rows: None,
+        logs: Declared::new(alloc),
+        ignored: Declared::new(alloc),
     })
 }
 

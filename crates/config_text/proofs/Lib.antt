@@ -1,3 +1,4 @@
 pub mod Counted
 pub mod Joined
 pub mod Sought
+pub mod Taken

@@ -1,6 +1,6 @@
 -- What is told of the faults of a configuration beside their names.
 use Rattle.std.specs.Prelude.{ℕ, ◌-◌, Bool, false, ◌&&◌, ◌||◌, if◌then◌else◌, ◌==◌, List, [], ◌++◌}
-use Rattle.std.specs.Prelude.{codes, Option, None, Some}
+use Rattle.std.specs.Prelude.{codes, min, Option, None, Some}
 use Rattle.std.specs.Fmt.{decimal}
 use Rattle.std.specs.List.{flat_map}
 use Rattle.std.specs.Str.{bytes_eq}
@@ -12,7 +12,8 @@ use Rattle.agg_types.specs.declared.check.ConfigFault.TheVariants.{BadSize, BadN
 use Rattle.agg_types.specs.declared.config.KeyKind.{KeyKind}
 use Rattle.agg_types.specs.declared.limits.TheConstants.{HOLD_END, LARGEST_SIZE, LONGEST_KEY}
 use Rattle.agg_types.specs.declared.limits.TheConstants.{LONGEST_NAME, LONGEST_RANK, MOST_FILTERS}
-use Rattle.agg_types.specs.declared.limits.TheConstants.{MOST_PEERS, MOST_PUSHES, MOST_RANKS}
+use Rattle.agg_types.specs.declared.limits.TheConstants.{MOST_IGNORED, MOST_LOGS, MOST_PEERS}
+use Rattle.agg_types.specs.declared.limits.TheConstants.{MOST_PUSHES, MOST_RANKS}
 use Rattle.agg_types.specs.declared.limits.TheConstants.{MOST_ROWS, MOST_TABLES, PERIOD_END}
 use Rattle.agg_types.specs.declared.limits.TheConstants.{SHORTEST_HOLD}
 use Rattle.agg_config.specs.declared.causes.LineCause.{LineCause}
@@ -24,6 +25,9 @@ use Rattle.line_words.specs.Words.{words}
 use Rattle.line_words.specs.declared.misread.Expected.{Expected}
 use Rattle.line_words.specs.declared.misread.Expected.TheVariants as expected
 use Rattle.line_words.specs.declared.misread.Misread.{Misread}
+use Rattle.config_text.specs.Named.{cause_names}
+use Rattle.config_text.specs.Spelled.{number_hint}
+use Rattle.config_text.specs.declared.named.TheConstants.{MOST_LINES}
 
 -- whether a table's line has to give this kind of keys a length
 abbrev pub has_length : Option KeyKind → Bool
@@ -85,7 +89,9 @@ form_named kind =
     else if bytes_eq kind (codes "rank") then codes "rank <name> <table> <column> <length>"
     else if bytes_eq kind (codes "push") then codes "push <filter> [hold <ms>]"
     else if bytes_eq kind (codes "rows") then codes "rows <n>"
-    else codes "name, peer, table, filter, rank, push or rows first"
+    else if bytes_eq kind (codes "log") then codes "log <filter>"
+    else if bytes_eq kind (codes "ignore") then codes "ignore <table>"
+    else codes "name, peer, table, filter, rank, push, rows, log or ignore first"
 
 -- how a line of these words is written
 unfoldable pub form_of : List (List ℕ) → List ℕ
@@ -104,10 +110,14 @@ abbrev pub found_text : Misread → List (List ℕ) → List ℕ
 found_text misread words =
     if misread.is_missing then codes " is missing" else quoted (word_at misread.word words)
 
--- what had to stand there, and how such a line is written
+-- what had to stand there, and what a number with a unit is here
+abbrev pub place_and_hint : Misread → List (List ℕ) → List ℕ
+place_and_hint misread words =
+    codes ": expected " ++ place_text misread words ++ number_hint misread words
+
+-- the same, and how such a line is written
 abbrev pub wanted_text : Misread → List (List ℕ) → List ℕ
-wanted_text misread words =
-    codes ": expected " ++ place_text misread words ++ codes "; write: " ++ form_of words
+wanted_text misread words = place_and_hint misread words ++ codes "; write: " ++ form_of words
 
 -- the word that is wrong or missing, and what was wanted
 abbrev pub misread_text : Misread → List (List ℕ) → List ℕ
@@ -118,11 +128,13 @@ misread_text misread words =
 -- what goes against the lines before
 abbrev pub check_text : ConfigFault → List ℕ
 check_text Duplicate =
-    codes "the name stands already, or a column or rows twice; a pushed filter has no table's name"
+    codes "the name stands already, or a column or rows twice; "
+    ++ codes "a pushed filter and an ignored table have no table's name"
 check_text TooMany =
     codes "there may be " ++ decimal MOST_PEERS ++ codes " peers, " ++ decimal MOST_TABLES
     ++ codes " tables, " ++ decimal MOST_FILTERS ++ codes " filters, " ++ decimal MOST_RANKS
-    ++ codes " ranked lists, " ++ decimal MOST_PUSHES ++ codes " pushes"
+    ++ codes " ranked lists, " ++ decimal MOST_PUSHES ++ codes " pushes, " ++ decimal MOST_LOGS
+    ++ codes " logs, " ++ decimal MOST_IGNORED ++ codes " ignored tables"
 check_text UnknownTable = codes "no line before declares the table"
 check_text UnknownColumn = codes "the table doesn't store the column"
 check_text BadPeriod =
@@ -148,14 +160,24 @@ abbrev pub reason_text : LineCause → Option Misread → List (List ℕ) → Li
 reason_text cause None words = codes ": " ++ cause_text cause
 reason_text cause (Some misread) words = misread_text misread words
 
+-- how many lines before a fault are looked through for names
+abbrev pub lines_before : LineFault → ℕ
+lines_before fault = min (fault.line - 1) MOST_LINES
+
+-- what is wrong with a line of these words, with the names that there are where it has another
+abbrev pub why_text : List (List ℕ) → LineFault → List (List ℕ) → List ℕ
+why_text lines fault words =
+    reason_text fault.cause fault.place words
+    ++ cause_names fault.cause words (lines_before fault) lines
+
 -- a fault of a line
-abbrev pub line_explanation : LineFault → List ℕ → List ℕ
-line_explanation fault line = codes "config line " ++ decimal fault.line
-    ++ reason_text fault.cause fault.place (words line) ++ codes "\n"
+abbrev pub line_explanation : List (List ℕ) → LineFault → List ℕ → List ℕ
+line_explanation lines fault line = codes "config line " ++ decimal fault.line
+    ++ why_text lines fault (words line) ++ codes "\n"
 
 -- what is told of a fault of these lines
 abbrev pub explanation : List (List ℕ) → LineFault → List ℕ
-explanation lines fault = line_explanation fault (line_at fault.line lines)
+explanation lines fault = line_explanation lines fault (line_at fault.line lines)
 
 -- a line for each fault
 abbrev pub explanations : List (List ℕ) → List LineFault → List ℕ

@@ -1,2 +1,4 @@
+pub mod Spelled
+pub mod Named
 pub mod Explained
 pub mod Spaced

@@ -82,10 +82,23 @@ abbrev pub rows_line : Option ℕ → List ℕ
 rows_line None = []
 rows_line (Some rows) = codes "rows" ++ (32 ∷ (decimal rows ++ 10 ∷ []))
 
+-- the lines of the filters whose keys the log tells
+abbrev pub log_lines : Config → List ℕ
+log_lines config = flat_map (λ logged. named_line (codes "log") logged.filter) config.logs
+
+-- the lines of the tables that are ignored
+abbrev pub ignored_lines : Config → List ℕ
+ignored_lines config =
+    flat_map (λ ignored. named_line (codes "ignore") ignored.table) config.ignored
+
+-- what stands behind the ranked lists
+abbrev pub last_lines : Config → List ℕ
+last_lines config = push_lines config ++ (rows_line config.rows
+    ++ (log_lines config ++ ignored_lines config))
+
 -- the lines of a configuration, kind by kind
 abbrev pub parts_text : Config → List ℕ
 parts_text config = named_line (codes "name") config.me
     ++ (flat_map (named_line (codes "peer")) config.peers
     ++ (flat_map table_line config.tables
-    ++ (filter_lines config ++ (rank_lines config
-    ++ (push_lines config ++ rows_line config.rows)))))
+    ++ (filter_lines config ++ (rank_lines config ++ last_lines config))))

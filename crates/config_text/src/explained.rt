@@ -1,21 +1,24 @@
 //! What is wrong with a configuration, in words.
 
-ghost use Rattle.std.specs.Prelude.{◌≡◌, ◌≤◌, ◌-◌, ◌++◌, ℕ, List, OnOk, drop};
+ghost use Rattle.std.specs.Prelude.{◌≡◌, ◌≤◌, ◌-◌, ◌++◌, OnOk, drop};
 ghost use Rattle.std.specs.Fmt.{decimal};
 ghost use Rattle.line_words.specs.Numbered.{line_at};
 ghost use Rattle.line_words.specs.Words.{lines_of, words};
 ghost use Rattle.config_text.specs.Explained.{cause_text, check_text, expected_text, explanation};
 ghost use Rattle.config_text.specs.Explained.{explanations, form_named, form_of, found_text};
 ghost use Rattle.config_text.specs.Explained.{keyword_text, line_explanation, misread_text};
-ghost use Rattle.config_text.specs.Explained.{place_text, quoted, reason_text, table_word};
-ghost use Rattle.config_text.specs.Explained.{wanted_text, wants_length};
+ghost use Rattle.config_text.specs.Explained.{place_and_hint, place_text, quoted, reason_text};
+ghost use Rattle.config_text.specs.Explained.{table_word, wanted_text, wants_length, why_text};
 ghost use Rattle.agg_types.specs.declared.check.ConfigFault.TheVariants.{TooMany, BadPeriod};
 ghost use Rattle.agg_types.specs.declared.check.ConfigFault.TheVariants.{BadSize, BadName};
 
+use crate::named::{MOST_LINES, append_names};
+use crate::spelled::append_number_hint;
 use agg_config::{LineCause, LineFault};
 use agg_types::limits::{
-    HOLD_END, LARGEST_SIZE, LONGEST_KEY, LONGEST_NAME, LONGEST_RANK, MOST_FILTERS, MOST_PEERS,
-    MOST_PUSHES, MOST_RANKS, MOST_ROWS, MOST_TABLES, PERIOD_END, SHORTEST_HOLD,
+    HOLD_END, LARGEST_SIZE, LONGEST_KEY, LONGEST_NAME, LONGEST_RANK, MOST_FILTERS, MOST_IGNORED,
+    MOST_LOGS, MOST_PEERS, MOST_PUSHES, MOST_RANKS, MOST_ROWS, MOST_TABLES, PERIOD_END,
+    SHORTEST_HOLD,
 };
 use agg_types::{ConfigFault, KeyKind, NoMemory};
 use key_text::{append_key, append_number, append_text};
@@ -52,7 +55,7 @@ pub fn append_explanations(
         let ahead = fault.line.saturating_sub(1);
         left = seek(text, left, before, ahead);
         before = ahead;
-        append_behind(*fault, left, out)?;
+        append_behind(*fault, text, left, out)?;
     }
     Ok(())
 }
@@ -96,29 +99,50 @@ fn first_line(text: &[u8]) -> &[u8]
 }
 
 // Appends what explains a fault, by what stands behind the lines before its own.
-fn append_behind(fault: LineFault, left: &[u8], out: &mut Vec<u8>) -> Result<(), NoMemory>
-    ensures { (lines : List (List ℕ)) → lines_of left.now ≡ drop (fault.line - 1) lines
-        → OnOk result (out.new.items ≡ out.old.items ++ explanation lines fault) }
+fn append_behind(
+    fault: LineFault,
+    text: &[u8],
+    left: &[u8],
+    out: &mut Vec<u8>,
+) -> Result<(), NoMemory>
+    ensures { lines_of left.now ≡ drop (fault.line - 1) (lines_of text.now) → OnOk result
+        (out.new.items ≡ out.old.items ++ explanation (lines_of text.now) fault) }
 {
-    append_line(fault, first_line(left), out)
+    append_line(fault, text, first_line(left), out)
 }
 
 /// Appends what explains a fault of a text's lines, with an LF: the line, the word that is wrong or
-/// missing, and what had to stand there.
+/// missing, and what had to stand there. Where the line has a name that nothing has, the names that
+/// there are stand behind that.
 pub fn append_explanation(text: &[u8], fault: LineFault, out: &mut Vec<u8>) -> Result<(), NoMemory>
     ensures { OnOk result
         (out.new.items ≡ out.old.items ++ explanation (lines_of text.now) fault) }
 {
-    append_line(fault, line_at(text, fault.line), out)
+    append_line(fault, text, line_at(text, fault.line), out)
 }
 
-fn append_line(fault: LineFault, line: &[u8], out: &mut Vec<u8>) -> Result<(), NoMemory>
-    ensures { OnOk result
-        (out.new.items ≡ out.old.items ++ line_explanation fault line.now) }
+fn append_line(
+    fault: LineFault,
+    text: &[u8],
+    line: &[u8],
+    out: &mut Vec<u8>,
+) -> Result<(), NoMemory>
+    ensures { OnOk result (out.new.items
+        ≡ out.old.items ++ line_explanation (lines_of text.now) fault line.now) }
 {
     append_counted(b"config line ", fault.line as u64, out)?;
-    append_reason(fault, line, out)?;
+    append_why(fault, text, line, out)?;
     append_text(b"\n", out)
+}
+
+// Appends what is wrong with a line, and the names that there are.
+fn append_why(fault: LineFault, text: &[u8], line: &[u8], out: &mut Vec<u8>) -> Result<(), NoMemory>
+    ensures { OnOk result (out.new.items
+        ≡ out.old.items ++ why_text (lines_of text.now) fault (words line.now)) }
+{
+    let before = fault.line.saturating_sub(1).min(MOST_LINES);
+    append_reason(fault, line, out)?;
+    append_names(fault.cause, line, text, before, out)
 }
 
 fn append_reason(fault: LineFault, line: &[u8], out: &mut Vec<u8>) -> Result<(), NoMemory>
@@ -158,10 +182,19 @@ fn append_wanted(misread: Misread, line: &[u8], out: &mut Vec<u8>) -> Result<(),
     ensures { OnOk result
         (out.new.items ≡ out.old.items ++ wanted_text misread (words line.now)) }
 {
-    append_text(b": expected ", out)?;
-    append_text(place_text(misread, line).as_bytes(), out)?;
+    append_expected(misread, line, out)?;
     append_text(b"; write: ", out)?;
     append_text(form_of(line).as_bytes(), out)
+}
+
+// Appends what had to stand there, and what a number with a unit is here.
+fn append_expected(misread: Misread, line: &[u8], out: &mut Vec<u8>) -> Result<(), NoMemory>
+    ensures { OnOk result
+        (out.new.items ≡ out.old.items ++ place_and_hint misread (words line.now)) }
+{
+    append_text(b": expected ", out)?;
+    append_text(place_text(misread, line).as_bytes(), out)?;
+    append_number_hint(misread, line, out)
 }
 
 fn append_quoted(word: &[u8], out: &mut Vec<u8>) -> Result<(), NoMemory>
@@ -271,8 +304,12 @@ fn form_named(kind: &[u8]) -> &'static str
         "push <filter> [hold <ms>]"
     } else if kind == b"rows".as_slice() {
         "rows <n>"
+    } else if kind == b"log".as_slice() {
+        "log <filter>"
+    } else if kind == b"ignore".as_slice() {
+        "ignore <table>"
     } else {
-        "name, peer, table, filter, rank, push or rows first"
+        "name, peer, table, filter, rank, push, rows, log or ignore first"
     }
 }
 
@@ -298,7 +335,7 @@ fn append_check(fault: ConfigFault, out: &mut Vec<u8>) -> Result<(), NoMemory>
     match fault {
         ConfigFault::Duplicate => append_text(
             b"the name stands already, or a column or rows twice; \
-                a pushed filter has no table's name",
+                a pushed filter and an ignored table have no table's name",
             out,
         ),
         ConfigFault::TooMany => append_limits(out),
@@ -319,7 +356,9 @@ fn append_limits(out: &mut Vec<u8>) -> Result<(), NoMemory>
     append_counted(b" tables, ", MOST_FILTERS as u64, out)?;
     append_counted(b" filters, ", MOST_RANKS as u64, out)?;
     append_counted(b" ranked lists, ", MOST_PUSHES as u64, out)?;
-    append_text(b" pushes", out)
+    append_counted(b" pushes, ", MOST_LOGS as u64, out)?;
+    append_counted(b" logs, ", MOST_IGNORED as u64, out)?;
+    append_text(b" ignored tables", out)
 }
 
 fn append_periods(out: &mut Vec<u8>) -> Result<(), NoMemory>

@@ -3,10 +3,11 @@
 ghost use Rattle.std.specs.Prelude.{◌≡◌, ◌++◌, codes, OnOk};
 ghost use Rattle.std.specs.List.{flat_map};
 ghost use Rattle.agg_config.specs.Written.{hold_words, keep_words, table_name, text_of};
-ghost use Rattle.config_text.specs.Spaced.{filter_line, filter_lines, filter_words, named_line};
-ghost use Rattle.config_text.specs.Spaced.{parts_text, push_line, push_lines, push_words};
-ghost use Rattle.config_text.specs.Spaced.{rank_line, rank_lines, rows_line, spaced, table_end};
-ghost use Rattle.config_text.specs.Spaced.{table_line, table_words};
+ghost use Rattle.config_text.specs.Spaced.{filter_line, filter_lines, filter_words, ignored_lines};
+ghost use Rattle.config_text.specs.Spaced.{last_lines, log_lines, named_line, parts_text};
+ghost use Rattle.config_text.specs.Spaced.{push_line, push_lines, push_words, rank_line};
+ghost use Rattle.config_text.specs.Spaced.{rank_lines, rows_line, spaced, table_end, table_line};
+ghost use Rattle.config_text.specs.Spaced.{table_words};
 
 use crate::tables::{append_conditions, append_kind, append_store};
 use crate::words::{append_figure, append_word};
@@ -31,13 +32,14 @@ fn append_parts(config: &Config, out: &mut Vec<u8>) -> Result<(), NoMemory>
     append_last(config, out)
 }
 
-// Appends the lines of pushed filters and of the bound on all rows.
+// Appends the lines of pushed filters, of the bound on all rows, and of what is logged and ignored.
 fn append_last(config: &Config, out: &mut Vec<u8>) -> Result<(), NoMemory>
-    ensures { OnOk result (out.new.items
-        ≡ out.old.items ++ (push_lines config.now ++ rows_line config.now.rows)) }
+    ensures { OnOk result (out.new.items ≡ out.old.items ++ last_lines config.now) }
 {
     append_pushes(config, out)?;
-    append_rows(config.rows, out)
+    append_rows(config.rows, out)?;
+    append_logs(config, out)?;
+    append_ignored(config, out)
 }
 
 /// Appends the lines of the standing filters.
@@ -66,6 +68,24 @@ pub fn append_pushes(config: &Config, out: &mut Vec<u8>) -> Result<(), NoMemory>
 {
     for push in config.pushes.as_slice() {
         append_push(push, out)?;
+    }
+    Ok(())
+}
+
+fn append_logs(config: &Config, out: &mut Vec<u8>) -> Result<(), NoMemory>
+    ensures { OnOk result (out.new.items ≡ out.old.items ++ log_lines config.now) }
+{
+    for logged in config.logs.as_slice() {
+        append_named(b"log", &logged.filter, out)?;
+    }
+    Ok(())
+}
+
+fn append_ignored(config: &Config, out: &mut Vec<u8>) -> Result<(), NoMemory>
+    ensures { OnOk result (out.new.items ≡ out.old.items ++ ignored_lines config.now) }
+{
+    for ignored in config.ignored.as_slice() {
+        append_named(b"ignore", &ignored.table, out)?;
     }
     Ok(())
 }

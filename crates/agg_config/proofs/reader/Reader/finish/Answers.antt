@@ -13,5 +13,7 @@ returns-in-Some-clause-finished c = λ lines has.
 
 pub returns-in-None-clause-sound : goal.returns-in-None-clause-sound
 returns-in-None-clause-sound c =
-    let followed = both_none _ _ (c.args.self.sound c.in-None.is) in
-    (both_none (config_faults c.args.self.config) _ followed.0).0
+    let a = both_none _ _ (c.args.self.sound c.in-None.is) in
+    let b = both_none _ _ a.0 in
+    let d = both_none _ _ b.0 in
+    (both_none (config_faults c.args.self.config) _ d.0).0
