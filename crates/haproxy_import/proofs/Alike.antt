@@ -10,11 +10,8 @@ use Rattle.agg_types.specs.Kind.{kind_number, kind_numbered, with_length}
 use Rattle.agg_types.specs.declared.column.Col.{Col}
 use Rattle.agg_types.specs.declared.column.Col.TheVariants as cols
 use Rattle.agg_types.specs.declared.config.Config.{Config}
-use Rattle.agg_types.specs.declared.config.Filter.{Filter}
 use Rattle.agg_types.specs.declared.config.KeyKind.{KeyKind}
 use Rattle.agg_types.specs.declared.config.KeyKind.TheVariants.{Integer, Ip, Ipv6, Str, Binary}
-use Rattle.agg_types.specs.declared.config.Push.{Push}
-use Rattle.agg_types.specs.declared.config.Rank.{Rank}
 use Rattle.agg_types.specs.declared.config.Shape.{Shape}
 use Rattle.haproxy_import.specs.Same.{is_plain, kind_len, same_cols, same_head, same_keep}
 use Rattle.haproxy_import.specs.Same.{same_kind, same_names, same_parts, same_peers}
@@ -126,52 +123,76 @@ tables_same (x ∷ xs) (y ∷ ys) e =
     let rest : xs ≡ ys = tables_same xs ys parts.1 in
     cc
 
-config_of : List ℕ → List (List ℕ) → List Shape → List Filter → List Rank → List Push → Option ℕ
-    → Config
-config_of me peers tables filters ranks pushes rows =
+-- the fields that a plain configuration leaves empty
+record IsPlain (config : Config) : Type 0 where
+  pub filters : [] ≡ config.filters
+  pub ranks : [] ≡ config.ranks
+  pub pushes : [] ≡ config.pushes
+  pub rows : None ≡ config.rows
+  pub logs : [] ≡ config.logs
+  pub ignored : [] ≡ config.ignored
+
+plain : (config : Config) → is_plain config ≡ true → IsPlain config
+plain config e =
+    let five = and_parts ((length config.filters == 0) && (length config.ranks == 0)
+    && (length config.pushes == 0) && is_none config.rows && (length config.logs == 0))
+    (length config.ignored == 0) e in
+    let four = and_parts ((length config.filters == 0) && (length config.ranks == 0)
+    && (length config.pushes == 0) && is_none config.rows) (length config.logs == 0) five.0 in
+    let three = and_parts ((length config.filters == 0) && (length config.ranks == 0)
+    && (length config.pushes == 0)) (is_none config.rows) four.0 in
+    let two = and_parts ((length config.filters == 0) && (length config.ranks == 0))
+    (length config.pushes == 0) three.0 in
+    let one = and_parts (length config.filters == 0) (length config.ranks == 0) two.0 in
     record {
-      me = me;
-      peers = peers;
-      tables = tables;
-      filters = filters;
-      ranks = ranks;
-      pushes = pushes;
-      rows = rows;
+      filters = none config.filters one.0;
+      ranks = none config.ranks one.1;
+      pushes = none config.pushes two.1;
+      rows = unbounded config.rows three.1;
+      logs = none config.logs four.1;
+      ignored = none config.ignored five.1;
     }
 
--- the fields of two configurations
-fields_same : (a b : Config) → a.me ≡ b.me → a.peers ≡ b.peers → a.tables ≡ b.tables
-    → a.filters ≡ b.filters → a.ranks ≡ b.ranks → a.pushes ≡ b.pushes → a.rows ≡ b.rows → a ≡ b
-unfolding config_of
-fields_same a b me peers tables filters ranks pushes rows =
-    ap (λ m. config_of m a.peers a.tables a.filters a.ranks a.pushes a.rows) me
-    ∙ (ap (λ p. config_of b.me p a.tables a.filters a.ranks a.pushes a.rows) peers
-    ∙ (ap (λ t. config_of b.me b.peers t a.filters a.ranks a.pushes a.rows) tables
-    ∙ (ap (λ f. config_of b.me b.peers b.tables f a.ranks a.pushes a.rows) filters
-    ∙ (ap (λ r. config_of b.me b.peers b.tables b.filters r a.pushes a.rows) ranks
-    ∙ (ap (λ p. config_of b.me b.peers b.tables b.filters b.ranks p a.rows) pushes
-    ∙ ap (λ n. config_of b.me b.peers b.tables b.filters b.ranks b.pushes n) rows)))))
+-- the configuration of a name, its peers and its tables
+plain_of : List ℕ → List (List ℕ) → List Shape → Config
+plain_of me peers tables = record {
+  me = me;
+  peers = peers;
+  tables = tables;
+  filters = [];
+  ranks = [];
+  pushes = [];
+  rows = None;
+  logs = [];
+  ignored = [];
+}
+
+plain_is : (config : Config) → IsPlain config
+    → plain_of config.me config.peers config.tables ≡ config
+unfolding plain_of
+plain_is config h =
+    let a : Config =
+    record config { ranks = []; pushes = []; rows = None; logs = []; ignored = [] } in
+    let b : Config = record config { pushes = []; rows = None; logs = []; ignored = [] } in
+    let d : Config = record config { rows = None; logs = []; ignored = [] } in
+    let e : Config = record config { logs = []; ignored = [] } in
+    let f : Config = record config { ignored = [] } in
+    ap (λ filters. record a { filters = filters }) h.filters
+    ∙ (ap (λ ranks. record b { ranks = ranks }) h.ranks
+    ∙ (ap (λ pushes. record d { pushes = pushes }) h.pushes
+    ∙ (ap (λ rows. record e { rows = rows }) h.rows
+    ∙ (ap (λ logs. record f { logs = logs }) h.logs
+    ∙ ap (λ ignored. record config { ignored = ignored }) h.ignored))))
 
 pub parts_same : (a b : Config) → same_parts a b ≡ true → a ≡ b
 parts_same a b e =
     let two = and_parts (is_plain a && is_plain b && same_peers a b)
     (same_tables a.tables b.tables) e in
     let one = and_parts (is_plain a && is_plain b) (same_peers a b) two.0 in
-    let plain = and_parts (is_plain a) (is_plain b) one.0 in
+    let both = and_parts (is_plain a) (is_plain b) one.0 in
     let peers = and_parts (bytes_eq a.me b.me) (same_names a.peers b.peers) one.1 in
-    let a_plain = and_parts ((length a.filters == 0) && (length a.ranks == 0)
-    && (length a.pushes == 0)) (is_none a.rows) plain.0 in
-    let b_plain = and_parts ((length b.filters == 0) && (length b.ranks == 0)
-    && (length b.pushes == 0)) (is_none b.rows) plain.1 in
-    let a_followed = and_parts ((length a.filters == 0) && (length a.ranks == 0))
-    (length a.pushes == 0) a_plain.0 in
-    let b_followed = and_parts ((length b.filters == 0) && (length b.ranks == 0))
-    (length b.pushes == 0) b_plain.0 in
-    let first = and_parts (length a.filters == 0) (length a.ranks == 0) a_followed.0 in
-    let second = and_parts (length b.filters == 0) (length b.ranks == 0) b_followed.0 in
-    fields_same a b (bytes_same a.me b.me peers.0) (names_same a.peers b.peers peers.1)
-    (tables_same a.tables b.tables two.1)
-    (sym (none a.filters first.0) ∙ none b.filters second.0)
-    (sym (none a.ranks first.1) ∙ none b.ranks second.1)
-    (sym (none a.pushes a_followed.1) ∙ none b.pushes b_followed.1)
-    (sym (unbounded a.rows a_plain.1) ∙ unbounded b.rows b_plain.1)
+    sym (plain_is a (plain a both.0))
+    ∙ (ap (λ me. plain_of me a.peers a.tables) (bytes_same a.me b.me peers.0)
+    ∙ (ap (λ ps. plain_of b.me ps a.tables) (names_same a.peers b.peers peers.1)
+    ∙ (ap (λ ts. plain_of b.me b.peers ts) (tables_same a.tables b.tables two.1)
+    ∙ plain_is b (plain b both.1))))

@@ -5,17 +5,17 @@ use Rattle.std.specs.Prelude.{◌∷◌, ◌++◌, length, drop, map, filter, fo
 use Rattle.std.specs.Prelude.{Option, None, Some}
 use Rattle.std.specs.List.{list_any}
 use Rattle.std.specs.Str.{bytes_eq}
-use Rattle.agg_config.specs.Reading.{Write}
 use Rattle.agg_types.specs.Check.{all_faults}
 use Rattle.agg_types.specs.declared.config.Config.{Config}
 use Rattle.agg_types.specs.declared.config.Shape.{Shape}
 use Rattle.agg_types.specs.declared.limits.TheConstants.{MOST_PEERS, MOST_TABLES}
 use Rattle.line_words.specs.Words.{lines_of, words}
-use Rattle.haproxy_import.specs.Sections.{before_hash, opened}
+use Rattle.agg_config.specs.Reading.{Write}
+use Rattle.haproxy_cfg.specs.Sections.{before_hash, opened}
+use Rattle.haproxy_cfg.specs.Tables.{fits, plain_name, shape_of}
+use Rattle.haproxy_cfg.specs.declared.sections.SectionKind.{SectionKind}
+use Rattle.haproxy_cfg.specs.declared.sections.SectionKind.TheVariants.{Peers, Proxy, Other}
 use Rattle.haproxy_import.specs.States.{State}
-use Rattle.haproxy_import.specs.Tables.{fits, plain_name, shape_of}
-use Rattle.haproxy_import.specs.declared.sections.SectionKind.{SectionKind}
-use Rattle.haproxy_import.specs.declared.sections.SectionKind.TheVariants.{Peers, Proxy, Other}
 
 -- before the first line
 abbrev pub start : State
@@ -118,6 +118,8 @@ config_of state = record {
   ranks = [];
   pushes = [];
   rows = None;
+  logs = [];
+  ignored = [];
 }
 
 -- a tab and a CR separate words as a space does

@@ -48,10 +48,12 @@ same_names [] others = length others == 0
 same_names (one ∷ some) [] = false
 same_names (one ∷ some) (other ∷ others) = bytes_eq one other && same_names some others
 
--- no filters and no ranked lists, nothing pushed, and no bound on all rows
+-- no filters and no ranked lists, nothing pushed, no bound on all rows, nothing logged and nothing
+-- ignored
 abbrev pub is_plain : Config → Bool
 is_plain config = (length config.filters == 0) && (length config.ranks == 0)
-    && (length config.pushes == 0) && is_none config.rows
+    && (length config.pushes == 0) && is_none config.rows && (length config.logs == 0)
+    && (length config.ignored == 0)
 
 abbrev pub same_peers : Config → Config → Bool
 same_peers one other = bytes_eq one.me other.me && same_names one.peers other.peers

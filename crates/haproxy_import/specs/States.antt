@@ -1,7 +1,7 @@
 -- What the lines so far declare.
 use Rattle.std.specs.Prelude.{ℕ, Bool, List}
 use Rattle.agg_types.specs.declared.config.Shape.{Shape}
-use Rattle.haproxy_import.specs.declared.sections.SectionKind.{SectionKind}
+use Rattle.haproxy_cfg.specs.declared.sections.SectionKind.{SectionKind}
 
 -- the section in force, the last peer that was named, whether one has a name that isn't read, and
 -- all peers and tables

@@ -1,9 +1,9 @@
 //! Comments on columns. No clause says what they tell.
 
+use crate::arrays::{array_of, tell_array};
 use crate::page::Page;
-use crate::tables::{item_of, period_behind};
-use crate::values::{value_of, word_of};
 use agg_types::{Col, NoMemory};
+use haproxy_cfg::{item_of, period_behind, value_of, word_of};
 use line_words::{next_part, next_word, place_of};
 
 /// A table's name, its line in the file, and what follows its name there.
@@ -14,7 +14,8 @@ pub(crate) struct Described<'a> {
     pub(crate) rest: &'a [u8],
 }
 
-/// Tells the columns of a table that aren't kept here; whether all are kept.
+/// Tells the columns of a table that aren't kept here, or under other names; whether all are kept
+/// as they stand.
 pub(crate) fn tell_columns(page: &mut Page, table: Described<'_>) -> Result<bool, NoMemory> {
     let before = page.len();
     columns(page, table)?;
@@ -41,13 +42,26 @@ fn list(page: &mut Page, table: Described<'_>, list: &[u8]) -> Result<(), NoMemo
         let opens = place_of(item, b'(').is_some();
         let closes = item.last() == Some(&b')');
         if opens || !closes || !is_open {
-            column(page, table, item)?;
+            entry(page, table, item, rest)?;
         }
         is_open = !closes && (opens || is_open);
         match rest {
             None => return Ok(()),
             Some(rest) => left = rest,
         }
+    }
+}
+
+// An item, with what is left of its list.
+fn entry(
+    page: &mut Page,
+    table: Described<'_>,
+    item: &[u8],
+    rest: Option<&[u8]>,
+) -> Result<(), NoMemory> {
+    match array_of(item, rest) {
+        None => column(page, table, item),
+        Some(array) => tell_array(page, table, array),
     }
 }
 

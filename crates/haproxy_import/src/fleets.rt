@@ -1,8 +1,8 @@
 //! Comments on `peers` sections. No clause says what they tell.
 
 use crate::page::Page;
-use crate::values::{has_word, value_of, word_of};
 use agg_types::NoMemory;
+use haproxy_cfg::{has_word, value_of, word_of};
 use std::alloc::Global;
 
 /// A line of a section: its number, its first word, and what follows it.

@@ -2,16 +2,16 @@
 
 ghost use Rattle.std.specs.Prelude.{◌≡◌, ◌∷◌, OnOk, IfOk};
 ghost use Rattle.line_words.specs.Words.{words};
+ghost use Rattle.haproxy_cfg.specs.Tables.{shape_of};
 ghost use Rattle.haproxy_import.specs.Found.{behind, config_of, me_of, others_than, peers_line};
 ghost use Rattle.haproxy_import.specs.Found.{proxy_line, said, said_in, start, with_peer};
 ghost use Rattle.haproxy_import.specs.Found.{with_shape, with_table};
-ghost use Rattle.haproxy_import.specs.Tables.{shape_of};
 
 use crate::notes::Notes;
-use crate::sections::{SectionKind, before_hash, opened};
-use crate::tables::{fits, plain_name, shape_of};
-use crate::values::{has_word, value_of, word_of};
 use agg_types::{Config, Declared, MOST_PEERS, MOST_TABLES, Name, NoMemory, Shape};
+use haproxy_cfg::{
+    SectionKind, before_hash, fits, has_word, opened, plain_name, shape_of, value_of, word_of,
+};
 use std::alloc::Global;
 use std::marker::Model;
 
@@ -183,6 +183,8 @@ impl<'a> Found<'a> {
             ranks: Declared::new(self.alloc),
             pushes: Declared::new(self.alloc),
             rows: None,
+            logs: Declared::new(self.alloc),
+            ignored: Declared::new(self.alloc),
         })
     }
 

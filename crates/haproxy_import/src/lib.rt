@@ -1,7 +1,9 @@
 //! The configuration of a collector, from a proxy's haproxy.cfg.
 //!
 //! For the program's `import`. It reads what HAProxy's Configuration Manual calls `peers` sections
-//! and `stick-table` lines, and nothing else of the file.
+//! and `stick-table` lines, and nothing else of the file. What one line says is found in
+//! `haproxy_cfg`; here the lines are walked, and a configuration is written, with comments on what
+//! it leaves out and on what may be added.
 //!
 //! `import` promises two things of the text that it gives. The collector reads it without a fault,
 //! and what it then has is exactly `imported`, a definition in specs/. That is the peers and tables
@@ -10,20 +12,17 @@
 //! memory.
 #![tactic(auto)]
 
+mod arrays;
 mod columns;
 mod fleets;
 mod found;
-mod lives;
 mod notes;
 mod page;
 mod pushes;
 mod reasons;
 mod same;
-mod sections;
 mod sizes;
-mod tables;
 mod text;
-mod values;
 mod whole;
 
 pub use whole::{ImportFault, import};

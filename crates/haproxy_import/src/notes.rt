@@ -7,8 +7,8 @@ use crate::page::Page;
 use crate::pushes::{suggest, tell_target};
 use crate::reasons::{tell_again, tell_full, tell_unfit, tell_unread};
 use crate::sizes::tell_room;
-use crate::tables::shape_of;
 use agg_types::{NoMemory, Shape};
+use haproxy_cfg::shape_of;
 use std::alloc::Global;
 use std::mem;
 

@@ -3,9 +3,9 @@
 use crate::columns::Described;
 use crate::page::Page;
 use crate::sizes::first_rate;
-use crate::values::value_of;
 use agg_types::limits::LONGEST_NAME;
 use agg_types::{Col, KeyKind, NoMemory, Shape};
+use haproxy_cfg::value_of;
 
 /// Before the suggestions.
 pub(crate) const HEAD: &[u8] =

@@ -3,11 +3,10 @@
 use crate::columns::Described;
 use crate::page::Page;
 use crate::same::same_table;
-use crate::tables::{kind_of, plain_name};
-use crate::values::value_of;
 use agg_config::type_of;
 use agg_types::limits::{LONGEST_KEY, MOST_TABLES};
 use agg_types::{NoMemory, Shape};
+use haproxy_cfg::{kind_of, plain_name, value_of};
 
 /// A table whose type, length or size isn't read.
 pub(crate) fn tell_unread(page: &mut Page, table: Described<'_>) -> Result<(), NoMemory> {

@@ -7,7 +7,8 @@ ghost use Rattle.haproxy_import.specs.Same.{same_stored, same_table, same_tables
 
 use agg_types::{Col, Config, KeyKind, Name, Shape};
 
-/// Whether they are, and have neither filters, ranked lists and pushes nor a bound on all rows.
+/// Whether they are, and have nothing but tables and peers: no filters, ranked lists and pushes, no
+/// bound on all rows, and nothing that is logged or ignored.
 pub(crate) fn same_config(one: &Config, other: &Config) -> bool
     ensures { result ≡ true → one.now ≡ other.now }
 {
@@ -41,6 +42,8 @@ fn is_plain(config: &Config) -> bool
         && config.ranks.is_empty()
         && config.pushes.is_empty()
         && config.rows.is_none()
+        && config.logs.is_empty()
+        && config.ignored.is_empty()
 }
 
 fn same_names(some: &[Name], others: &[Name]) -> bool

@@ -2,9 +2,9 @@
 
 use crate::columns::Described;
 use crate::page::Page;
-use crate::values::{ms_of, value_of};
 use agg_types::limits::LARGEST_SIZE;
 use agg_types::{Col, NoMemory, Shape};
+use haproxy_cfg::{ms_of, value_of};
 
 /// The rule, before the tables.
 pub(crate) const RULE: &[u8] =

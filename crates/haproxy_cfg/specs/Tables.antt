@@ -10,7 +10,6 @@ use Rattle.std.specs.Result.{result_ok}
 use Rattle.std.specs.Str.{bytes_eq}
 use Rattle.agg_types.specs.Check.{len_fits}
 use Rattle.agg_types.specs.Col.{all_cols, col_name, is_rate}
-use Rattle.agg_config.specs.Declarations.{type_of}
 use Rattle.agg_types.specs.Kind.{kind_length, takes_length, with_length}
 use Rattle.agg_types.specs.Name.{is_name}
 use Rattle.agg_types.specs.declared.column.Col.{Col}
@@ -21,7 +20,9 @@ use Rattle.agg_types.specs.declared.kind.KeyLength.TheVariants.{Exactly, AtMost}
 use Rattle.agg_types.specs.declared.limits.TheConstants.{PERIOD_END}
 use Rattle.line_words.specs.Numbers.{number_of}
 use Rattle.line_words.specs.Words.{parts}
-use Rattle.haproxy_import.specs.Values.{behind_word, ms_of, room_of}
+use Rattle.agg_config.specs.Declarations.{type_of}
+use Rattle.haproxy_cfg.specs.Arrays.{array_behind}
+use Rattle.haproxy_cfg.specs.Values.{behind_word, ms_of, room_of}
 
 -- the period in parentheses
 abbrev pub inside : List ℕ → Option ℕ
@@ -54,6 +55,10 @@ period_behind col (first ∷ rest) =
     then option_or (in_list col (parts 44 (slice_index_or rest 0 []))) (period_behind col rest)
     else period_behind col rest
 
+-- the period of a column: its own, or else that of an array that has it as an element
+abbrev pub stored_period : Col → List (List ℕ) → Option ℕ
+stored_period col words = option_or (period_behind col words) (array_behind col words)
+
 -- a column with its period, where it has one
 abbrev pub with_period : Col → Option ℕ → List (Col × ℕ)
 with_period col None = []
@@ -61,7 +66,7 @@ with_period col (Some period) = (col, period) ∷ []
 
 -- a column with its period, where the words store it
 abbrev pub put_col : Col → List (List ℕ) → List (Col × ℕ)
-put_col col words = with_period col (period_behind col words)
+put_col col words = with_period col (stored_period col words)
 
 -- those of these columns that the words store
 abbrev pub cols_by : List Col → List (List ℕ) → List (Col × ℕ)

@@ -1,7 +1,7 @@
 //! The sections of a haproxy.cfg.
 
 ghost use Rattle.std.specs.Prelude.{◌≡◌};
-ghost use Rattle.haproxy_import.specs.Sections.{before_hash, is_other, is_proxy, opened};
+ghost use Rattle.haproxy_cfg.specs.Sections.{before_hash, is_other, is_proxy, opened};
 
 use crate::values::has_word;
 use line_words::place_of;
@@ -15,7 +15,7 @@ const OTHERS: &[u8] = b"acme cache crt-store defaults fcgi-app global http-error
 
 /// What may be declared in a section.
 #[derive(Clone, Copy, PartialEq, Eq)]
-pub(crate) enum SectionKind {
+pub enum SectionKind {
     /// Peers, and tables of a name of their own.
     Peers,
     /// A stick table, which has the section's name.
@@ -25,7 +25,7 @@ pub(crate) enum SectionKind {
 }
 
 /// The kind of section that a line with this first word opens, or none.
-pub(crate) fn opened(word: &[u8]) -> Option<SectionKind>
+pub fn opened(word: &[u8]) -> Option<SectionKind>
     ensures { result ≡ opened word.now }
 {
     if word == b"peers".as_slice() {
@@ -54,7 +54,7 @@ fn is_other(word: &[u8]) -> bool
 }
 
 /// A line without its comment.
-pub(crate) fn before_hash(line: &[u8]) -> &[u8]
+pub fn before_hash(line: &[u8]) -> &[u8]
     ensures { result.now ≡ before_hash line.now }
 {
     match place_of(line, b'#') {

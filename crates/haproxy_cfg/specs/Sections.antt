@@ -4,9 +4,9 @@ use Rattle.std.specs.Prelude.{Option, None, Some}
 use Rattle.std.specs.List.{list_any}
 use Rattle.std.specs.Str.{bytes_eq}
 use Rattle.line_words.specs.Words.{words}
-use Rattle.haproxy_import.specs.declared.sections.SectionKind.{SectionKind}
-use Rattle.haproxy_import.specs.declared.sections.SectionKind.TheVariants.{Peers, Proxy, Other}
-use Rattle.haproxy_import.specs.declared.sections.TheConstants.{OTHERS, PROXIES}
+use Rattle.haproxy_cfg.specs.declared.sections.SectionKind.{SectionKind}
+use Rattle.haproxy_cfg.specs.declared.sections.SectionKind.TheVariants.{Peers, Proxy, Other}
+use Rattle.haproxy_cfg.specs.declared.sections.TheConstants.{OTHERS, PROXIES}
 
 -- the word opens a section that may have a stick table
 unfoldable pub is_proxy : List ℕ → Bool

@@ -2,14 +2,14 @@
 
 ghost use Rattle.std.specs.Prelude.{◌≡◌};
 ghost use Rattle.std.specs.List.{list_all};
-ghost use Rattle.haproxy_import.specs.Tables.{are_rates, keep_of, longest, shorter, stores_rate};
+ghost use Rattle.haproxy_cfg.specs.Tables.{are_rates, keep_of, longest, shorter, stores_rate};
 
 use agg_types::Col;
 use agg_types::limits::PERIOD_END;
 
 /// The longest life of rows, in ms, that a table of rates alone needs: behind two of the longest
 /// period they are 0. None where other columns are stored too, or where no row lives longer.
-pub(crate) fn keep_of(cols: &[(Col, u32)], life: Option<u32>) -> Option<u64>
+pub fn keep_of(cols: &[(Col, u32)], life: Option<u32>) -> Option<u64>
     ensures { result ≡ keep_of cols.now life }
 {
     if are_rates(cols) {

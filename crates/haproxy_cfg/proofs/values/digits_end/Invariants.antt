@@ -1,6 +1,6 @@
 use Rattle.std.proofs.Common.{◌≡◌, ◌+◌, ◌≤◌, length}
-use Rattle.haproxy_import.specs.Values.{digits_end}
-use Rattle.haproxy_import.proofs.values.digits_end.Given as goal
+use Rattle.haproxy_cfg.specs.Values.{digits_end}
+use Rattle.haproxy_cfg.proofs.values.digits_end.Given as goal
 
 abbrev pub invariant-digits : goal.invariant-digits
 invariant-digits l = record {

@@ -1,6 +1,6 @@
 use Rattle.std.proofs.Common.{◌≡◌, drop, fold, max}
-use Rattle.haproxy_import.specs.Tables.{longest}
-use Rattle.haproxy_import.proofs.lives.longest.Given as goal
+use Rattle.haproxy_cfg.specs.Tables.{longest}
+use Rattle.haproxy_cfg.proofs.lives.longest.Given as goal
 
 abbrev pub invariant-loop-col : goal.invariant-loop-col
 invariant-loop-col l =

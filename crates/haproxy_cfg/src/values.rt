@@ -4,15 +4,14 @@ ghost use Rattle.std.specs.Prelude.{◌≡◌, length, drop, slice_index_or, [],
 ghost use Rattle.std.specs.List.{list_any};
 ghost use Rattle.std.specs.Str.{bytes_eq};
 ghost use Rattle.line_words.specs.Words.{words};
-ghost use Rattle.haproxy_import.specs.Values.{as_period, as_size, behind_word, digits_end};
-ghost use Rattle.haproxy_import.specs.Values.{ms_of, number_before, room_of, scaled_ms};
-ghost use Rattle.haproxy_import.specs.Values.{scaled_size};
+ghost use Rattle.haproxy_cfg.specs.Values.{as_period, as_size, behind_word, digits_end, ms_of};
+ghost use Rattle.haproxy_cfg.specs.Values.{number_before, room_of, scaled_ms, scaled_size};
 
 use agg_types::limits::{LARGEST_SIZE, PERIOD_END};
 use line_words::{next_word, number};
 
 /// The first word of a line, and what follows it; an empty one where there is none.
-pub(crate) fn word_of(line: &[u8]) -> (&[u8], &[u8])
+pub fn word_of(line: &[u8]) -> (&[u8], &[u8])
     ensures first { result.0.now ≡ slice_index_or (words line.now) 0 [] }
     ensures rest { words result.1.now ≡ drop 1 (words line.now) }
 {
@@ -23,7 +22,7 @@ pub(crate) fn word_of(line: &[u8]) -> (&[u8], &[u8])
 }
 
 /// Whether a word stands in a line.
-pub(crate) fn has_word(line: &[u8], wanted: &[u8]) -> bool
+pub fn has_word(line: &[u8], wanted: &[u8]) -> bool
     ensures { result ≡ list_any (λ word. bytes_eq word wanted.now) (words line.now) }
 {
     let mut left = line;
@@ -37,7 +36,7 @@ pub(crate) fn has_word(line: &[u8], wanted: &[u8]) -> bool
 }
 
 /// The word behind the first one that is this keyword; empty where there is none.
-pub(crate) fn value_of<'a>(line: &'a [u8], key: &[u8]) -> &'a [u8]
+pub fn value_of<'a>(line: &'a [u8], key: &[u8]) -> &'a [u8]
     ensures { result.now ≡ behind_word key.now (words line.now) }
 {
     let mut left = line;
@@ -76,7 +75,7 @@ fn number_before(word: &[u8], end: usize) -> Option<u64>
 /// Twice the number of entries that a size of HAProxy's says, at most as many as a table may have
 /// here; none where the word is no size.
 #[tactic(auto, unfolding(crate::specs::Values::room_of))]
-pub(crate) fn room_of(word: &[u8]) -> Option<u64>
+pub fn room_of(word: &[u8]) -> Option<u64>
     ensures { result ≡ room_of word.now }
 {
     let end = digits_end(word);
@@ -106,7 +105,7 @@ fn as_size(rows: u128) -> u64
 
 /// The period in ms that a time of HAProxy's says; none where it is no time, or no period.
 #[tactic(auto, unfolding(crate::specs::Values::ms_of))]
-pub(crate) fn ms_of(word: &[u8]) -> Option<u32>
+pub fn ms_of(word: &[u8]) -> Option<u32>
     ensures { result ≡ ms_of word.now }
 {
     let end = digits_end(word);

@@ -3,11 +3,12 @@
 ghost use Rattle.std.specs.Prelude.{◌≡◌, ◌++◌, IfOk, OnOk};
 ghost use Rattle.std.specs.List.{list_all};
 ghost use Rattle.line_words.specs.Words.{parts, words};
-ghost use Rattle.haproxy_import.specs.Tables.{cols_by, cols_of, fits, in_list, inside, is_plain};
-ghost use Rattle.haproxy_import.specs.Tables.{item_of, kind_of, len_of, life_of, period_behind};
-ghost use Rattle.haproxy_import.specs.Tables.{plain_name, put_col, shape_of, usual_len};
-ghost use Rattle.haproxy_import.specs.Tables.{with_len};
+ghost use Rattle.haproxy_cfg.specs.Tables.{cols_by, cols_of, fits, in_list, inside, is_plain};
+ghost use Rattle.haproxy_cfg.specs.Tables.{item_of, kind_of, len_of, life_of, period_behind};
+ghost use Rattle.haproxy_cfg.specs.Tables.{plain_name, put_col, shape_of, stored_period};
+ghost use Rattle.haproxy_cfg.specs.Tables.{usual_len, with_len};
 
+use crate::arrays::array_behind;
 use crate::lives::keep_of;
 use crate::values::{ms_of, room_of, value_of, word_of};
 use agg_config::type_of;
@@ -17,7 +18,7 @@ use std::alloc::Global;
 
 /// The table of this name that the rest of a line describes; none where its type or its size isn't
 /// read here.
-pub(crate) fn shape_of(alloc: Global, name: &[u8], line: &[u8]) -> Result<Option<Shape>, NoMemory>
+pub fn shape_of(alloc: Global, name: &[u8], line: &[u8]) -> Result<Option<Shape>, NoMemory>
     ensures { IfOk result (λ shape. shape ≡ shape_of name.now (words line.now)) }
 {
     let Some(kind) = kind_of(line) else {
@@ -44,7 +45,7 @@ fn life_of(line: &[u8]) -> Option<u32>
 }
 
 /// The kind of keys; none where the type or the length isn't read here.
-pub(crate) fn kind_of(line: &[u8]) -> Option<KeyKind>
+pub fn kind_of(line: &[u8]) -> Option<KeyKind>
     ensures { result ≡ kind_of (words line.now) }
 {
     with_len(type_of(value_of(line, b"type"))?, line)
@@ -105,14 +106,28 @@ fn cols_by(alloc: Global, order: &[Col], line: &[u8]) -> Result<Items<(Col, u32)
 fn put_col(col: Col, line: &[u8], cols: &mut Items<(Col, u32)>) -> Result<(), NoMemory>
     ensures { OnOk result (cols.new ≡ cols.old ++ put_col col (words line.now)) }
 {
-    match period_behind(col, line) {
+    match stored_period(col, line) {
         None => Ok(()),
         Some(period) => cols.push((col, period)),
     }
 }
 
-/// The period that a line stores a column with, 0 for a count; none where it doesn't store it.
-pub(crate) fn period_behind(col: Col, line: &[u8]) -> Option<u32>
+/// The period of a column that a line stores, 0 for a count: the column's own, or else that of an
+/// array that has it as an element. None where it isn't stored.
+pub fn stored_period(col: Col, line: &[u8]) -> Option<u32>
+    ensures { result ≡ stored_period col (words line.now) }
+{
+    let own = period_behind(col, line);
+    if own.is_some() {
+        own
+    } else {
+        array_behind(col, line)
+    }
+}
+
+/// The period that a line stores a column with by its own name, 0 for a count; none where it
+/// doesn't.
+pub fn period_behind(col: Col, line: &[u8]) -> Option<u32>
     ensures { result ≡ period_behind col (words line.now) }
 {
     let mut left = line;
@@ -148,7 +163,7 @@ fn in_list(col: Col, list: &[u8]) -> Option<u32>
 
 /// The period of an item, if it names this column: a count by its name alone, a rate with its
 /// period in parentheses.
-pub(crate) fn item_of(col: Col, item: &[u8]) -> Option<u32>
+pub fn item_of(col: Col, item: &[u8]) -> Option<u32>
     ensures { result ≡ item_of col item.now }
 {
     let rest = item.strip_prefix(col.name().as_bytes())?;
@@ -172,14 +187,14 @@ fn inside(rest: &[u8]) -> Option<u32>
 
 /// Whether a table may be one of the collector's: its name is one of HAProxy's, and its keys
 /// aren't too long.
-pub(crate) fn fits(shape: &Shape) -> bool
+pub fn fits(shape: &Shape) -> bool
     ensures { result ≡ fits shape.now }
 {
     plain_name(shape.name.as_slice()) && shape.kind.length_fits()
 }
 
 /// Whether a name has none of the marks that HAProxy's words may have: quotes, escapes, variables.
-pub(crate) fn plain_name(name: &[u8]) -> bool
+pub fn plain_name(name: &[u8]) -> bool
     ensures { result ≡ plain_name name.now }
 {
     is_name(name) && all_plain(name)

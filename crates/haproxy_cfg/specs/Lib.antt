@@ -1,0 +1,4 @@
+pub mod Values
+pub mod Arrays
+pub mod Tables
+pub mod Sections
