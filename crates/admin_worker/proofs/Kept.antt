@@ -3,7 +3,7 @@ use Rattle.std.proofs.Common.{◌≡◌, ℕ, zero, suc, ◌+◌, ◌<◌, ◌�
 use Rattle.std.proofs.Common.{List, [], ◌∷◌, ◌++◌, length, take, drop, Option, Some, None, refl, ap}
 use Rattle.std.proofs.Common.{sym, ◌∙◌, inl, inr, arith, append-nil, length-take-le, Ok, Err, codes}
 use Rattle.std.specs.Fmt.{decimal}
-use Rattle.std.specs.Prelude.{if◌then◌else◌, nat_lt, OnOk, Result}
+use Rattle.std.specs.Prelude.{if◌then◌else◌, nat_lt, Bool, ◌&&◌, OnOk, Result}
 use Rattle.std.specs.Result.{is_err}
 use Rattle.std.specs.Option.{option_or, option_to_list}
 use Rattle.std.proofs.Math.Seq.{take-append-add, drop-append-add}
@@ -24,12 +24,24 @@ use Rattle.show_clear.specs.Refused.{unplaced}
 use Rattle.show_clear.specs.declared.fault.CommandFault.TheVariants.{Unknown}
 use Rattle.show_clear.specs.declared.refused.Refused.{Refused}
 use Rattle.admin_worker.specs.Commanding.{kept_of, text_byte}
-use Rattle.admin_worker.specs.Status.{asked_by, asked_in, by_words, is_quit, quits, refusal_at}
+use Rattle.admin_worker.specs.Commands.{is_silent}
+use Rattle.admin_worker.specs.Manners.{asks_prompt, closing, is_prompt, manner_behind}
+use Rattle.admin_worker.specs.declared.manner.Manner.{Manner}
+use Rattle.admin_worker.specs.Status.{asked_by, asked_in, by_words, is_blank, is_quit}
+use Rattle.admin_worker.specs.Status.{is_wordless, quits, refusal_at}
 use Rattle.worker_frame.specs.declared.door.Door.{Door}
 use Rattle.worker_frame.specs.declared.door.Door.TheVariants.{Programs, People}
 use Rattle.worker_frame.proofs.Pieces.{take_short}
 
 -- ---- what a line says stands in what is kept of it
+
+-- a manner behind a part
+abbrev manner_with : Manner → Bool → ℕ → Manner
+manner_with manner prompts end = record {
+  door = manner.door;
+  prompts = prompts;
+  behind = eqb end 59;
+}
 
 -- what keeping it promises where it wasn't refused
 pub from_ok : {T E P : Type 0} (result : Result T E) → is_err result ≡ false → OnOk result P → P
@@ -129,6 +141,32 @@ kept_tells People book line refused =
 pub kept_quits : (line : List ℕ) → quits (kept_of line) ≡ quits line
 unfolding quits
 kept_quits line = kept_words false is_quit line
+
+pub kept_prompt : (line : List ℕ) → asks_prompt (kept_of line) ≡ asks_prompt line
+unfolding asks_prompt
+kept_prompt line = kept_words false is_prompt line
+
+-- what stands behind the answer to a line, and how the next one is answered, is told by what is
+-- kept of it
+pub kept_closing : (manner : Manner) (line : List ℕ)
+    → closing manner (kept_of line) ≡ closing manner line
+kept_closing manner line =
+    ap (λ (asks : Bool). if (if asks then not manner.prompts else manner.prompts)
+    then codes "\n> " else codes "\n") (kept_prompt line)
+
+pub kept_manner : (manner : Manner) (line : List ℕ) (end : ℕ)
+    → manner_behind manner (kept_of line) end ≡ manner_behind manner line end
+kept_manner manner line end =
+    ap (λ (asks : Bool). manner_with manner (if asks then not manner.prompts else manner.prompts)
+    end) (kept_prompt line)
+
+pub kept_blank : (line : List ℕ) → is_blank (kept_of line) ≡ is_blank line
+unfolding is_blank
+kept_blank line = kept_words false is_wordless line
+
+pub kept_silent : (behind : Bool) (line : List ℕ) → is_silent behind (kept_of line)
+    ≡ is_silent behind line
+kept_silent behind line = ap (λ (b : Bool). behind && b) (kept_blank line)
 
 -- ---- what is kept of a line that goes on
 

@@ -10,14 +10,16 @@ use Rattle.hub.specs.declared.faults.PostFault.{PostFault}
 use Rattle.hub.specs.History.{Beginning}
 use Rattle.hub.specs.Posts.{Follows}
 use Rattle.admin_worker.specs.declared.answering.Answered.{Answered}
+use Rattle.admin_worker.specs.declared.manner.Manner.{Manner}
 use Rattle.admin_worker.specs.declared.worker.AdminWorker.{AdminWorker}
 use Rattle.worker_frame.specs.declared.door.Door.{Door}
 use Rattle.admin_worker.specs.declared.faults.LineFault.{LineFault}
 use Rattle.admin_worker.specs.declared.faults.LineFault.TheVariants.{Write, Post, Look}
 use Rattle.worker_frame.specs.declared.served.Cause.{Cause}
-use Rattle.admin_worker.specs.Commands.{AnsweredToQuit, AreReplies, EndsCommands, IsReply, Reply}
-use Rattle.admin_worker.specs.Commands.{changes_in, lines_in, seen_by, texts_in}
-use Rattle.worker_frame.specs.Lines.{HasNoEnd}
+use Rattle.admin_worker.specs.Commands.{AnsweredToQuit, AreReplies, EndsCommands, IsReply, Part}
+use Rattle.admin_worker.specs.Commands.{RepliesIf, Reply, changes_in, lines_in, manner_of, seen_by}
+use Rattle.admin_worker.specs.Commands.{texts_in}
+use Rattle.admin_worker.specs.Framing.{HasNoEnd}
 use Rattle.worker_frame.specs.Told.{ShowsTold, HasTold, stored_of}
 use Rattle.admin_worker.specs.Faults.{cause_of_line}
 use Rattle.worker_frame.specs.Traffic.{Advances, Traffic, so_far}
@@ -58,20 +60,20 @@ reply_of line change text seen =
     record { line = line; change = change; text = text; seen = seen }
 
 -- a line is answered over what its lens has seen
-pub record HasLooked (door : Door) (hub since : Beginning) (seat : ℕ) (worker : AdminWorker)
+pub record HasLooked (manner : Manner) (hub since : Beginning) (seat : ℕ) (worker : AdminWorker)
     (whats : List What)
     (line : List ℕ) (answered : Answered) : Type 0 where
   pub learned : HasLearned hub worker.lens.seen seat worker whats
-  pub is : IsReply door since seat whats
+  pub is : IsReply manner since seat whats
       (reply_of line answered.change answered.text.items worker.lens.seen)
 
 -- the same, else no copy could be entered, or an allocation failed, and no more was told
-abbrev pub LooksTo : Door → Beginning → Beginning → ℕ → AdminWorker → List What → List ℕ
+abbrev pub LooksTo : Manner → Beginning → Beginning → ℕ → AdminWorker → List What → List ℕ
     → Result (Option Answered) NoMemory → Type 0
-LooksTo door hub since seat worker whats line (Ok (Some answered)) =
-    HasLooked door hub since seat worker whats line answered
-LooksTo door hub since seat worker whats line (Ok None) = HasTold hub worker.poster whats 0
-LooksTo door hub since seat worker whats line (Err want) = HasTold hub worker.poster whats 0
+LooksTo manner hub since seat worker whats line (Ok (Some answered)) =
+    HasLooked manner hub since seat worker whats line answered
+LooksTo manner hub since seat worker whats line (Ok None) = HasTold hub worker.poster whats 0
+LooksTo manner hub since seat worker whats line (Err want) = HasTold hub worker.poster whats 0
 
 -- what a line asks for is told behind what was told before it, and learned; or refused
 abbrev pub ChangesTo : Beginning → Beginning → ℕ → AdminWorker → List What → List What
@@ -81,40 +83,41 @@ ChangesTo hub since seat worker whats batch (Ok done) =
 ChangesTo hub since seat worker whats batch (Err fault) =
     HasTold hub worker.poster whats (stored_of fault 1)
 
--- a line has a reply, and what it asks for was told and learned
-pub record HasObeyed (door : Door) (hub since : Beginning) (seat : ℕ) (worker : AdminWorker)
-    (whats : List What)
+-- a part has a reply, silent or not, and what it asks for was told and learned
+pub record HasObeyed (silent : Bool) (manner : Manner) (hub since : Beginning) (seat : ℕ)
+    (worker : AdminWorker) (whats : List What)
     (line : List ℕ) (reply : Reply) : Type 0 where
   pub answers : reply.line ≡ line
-  pub is : IsReply door since seat whats reply
+  pub is : RepliesIf silent manner since seat whats reply
   pub learned : HasLearned hub reply.seen seat worker (whats ++ option_to_list reply.change)
 
--- its answer was written, or a beginning of it; or nothing of a line was told nor written
-abbrev pub ObeysTo : Door → Beginning → Beginning → ℕ → AdminWorker → List What → List ℕ
+-- its answer was written, or a beginning of it; or nothing of a part was told nor written
+abbrev pub ObeysTo : Bool → Manner → Beginning → Beginning → ℕ → AdminWorker → List What → List ℕ
     → Option (List ℕ)
     → Option (List ℕ) → Result (Unit {0}) LineFault → Type 0
-ObeysTo door hub since seat worker whats line before after (Ok done) =
-    (reply : Reply) × HasObeyed door hub since seat worker whats line reply
+ObeysTo silent manner hub since seat worker whats line before after (Ok done) =
+    (reply : Reply) × HasObeyed silent manner hub since seat worker whats line reply
     × Appends before after reply.text
-ObeysTo door hub since seat worker whats line before after (Err Write) =
-    (reply : Reply) × HasObeyed door hub since seat worker whats line reply
+ObeysTo silent manner hub since seat worker whats line before after (Err Write) =
+    (reply : Reply) × HasObeyed silent manner hub since seat worker whats line reply
     × WroteFront before after reply.text
-ObeysTo door hub since seat worker whats line before after (Err (Post fault)) =
+ObeysTo silent manner hub since seat worker whats line before after (Err (Post fault)) =
     HasTold hub worker.poster whats (stored_of fault 1) × Appends before after []
-ObeysTo door hub since seat worker whats line before after (Err Look) =
+ObeysTo silent manner hub since seat worker whats line before after (Err Look) =
     HasTold hub worker.poster whats 0 × Appends before after []
 
 -- an admin at work, with what its source gave and its writer took since it began; so many bytes of
 -- a piece are left
 pub record Works (door : Door) (hub : Beginning) (seat : ℕ) (worker : AdminWorker) (rest : List ℕ)
     (start now : Traffic) : Type 0 where
-  pub replies : List Reply
+  pub parts : List Part
   pub line : List ℕ
-  pub are : AreReplies door hub seat replies
-  pub learned : HasLearned hub (seen_by hub replies) seat worker (changes_in replies)
+  pub are : AreReplies door hub seat parts
+  pub learned : HasLearned hub (seen_by hub parts) seat worker (changes_in parts)
   pub keeps : worker.line.bytes.items ≡ kept_of line
+  pub manner : worker.manner ≡ manner_of door parts
   pub unended : HasNoEnd line
-  pub carried : Advances start now (lines_in replies ++ (line ++ rest)) (texts_in replies)
+  pub carried : Advances start now (lines_in parts ++ (line ++ rest)) (texts_in parts)
 
 -- it has ended for this cause
 pub record Stops (door : Door) (hub : Beginning) (seat : ℕ) (worker : AdminWorker)
@@ -166,11 +169,11 @@ abbrev pub RunsOut : Door → Beginning → ℕ → AdminWorker → Traffic → 
 RunsOut door hub seat worker start now (Ok done) = IsDone door hub seat worker start now
 RunsOut door hub seat worker start now (Err cause) = Stops door hub seat worker start now cause
 
--- a step that takes bytes which were read, and leaves some of them, whatever was read and written
--- before
-abbrev pub Takes : Door → Beginning → AdminWorker → AdminWorker → List ℕ → List ℕ
+-- a step that takes bytes which were read, and leaves some of them, at whatever door, and whatever
+-- was read and written before
+abbrev pub Takes : Beginning → AdminWorker → AdminWorker → List ℕ → List ℕ
     → Option (List ℕ) → Option (List ℕ) → Result Bool LineFault → Type 0
-Takes door hub old new bytes rest before after result =
-    (seat : ℕ) (start : Traffic) (given : Option (List ℕ))
+Takes hub old new bytes rest before after result =
+    (door : Door) (seat : ℕ) (start : Traffic) (given : Option (List ℕ))
     → Works door hub seat old bytes start (so_far given before)
     → GoesOn door hub seat new rest start (so_far given after) result

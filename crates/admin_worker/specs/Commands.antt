@@ -1,6 +1,6 @@
--- What an admin reads, tells and answers, line by line.
-use Rattle.std.specs.Prelude.{◌≡◌, ◌≢◌, ℕ, ◌⊎◌, ⊤, true, false, List, [], ◌∷◌, ◌++◌, codes, Option}
-use Rattle.std.specs.Prelude.{None, Some, Ok, Err}
+-- What an admin reads, tells and answers, part by part: a line may have several commands.
+use Rattle.std.specs.Prelude.{◌≡◌, ◌≢◌, ℕ, ◌⊎◌, ⊤, Bool, true, false, ◌&&◌, List, [], ◌∷◌}
+use Rattle.std.specs.Prelude.{◌++◌, Option, None, Some, Ok, Err}
 use Rattle.std.specs.Option.{option_to_list}
 use Rattle.agg_types.specs.declared.event.What.{What}
 use Rattle.fleet_model.specs.State.{State}
@@ -21,10 +21,12 @@ use Rattle.worker_frame.specs.declared.served.Cause.TheVariants.{Read, Write, Se
 use Rattle.worker_frame.specs.declared.served.Faulted.{Faulted}
 use Rattle.worker_frame.specs.declared.served.Served.{Served}
 use Rattle.admin_worker.specs.declared.asked.Asked.{Asked}
-use Rattle.admin_worker.specs.Status.{IsStatus, asked_in, quits, refusal_at}
+use Rattle.admin_worker.specs.Framing.{HasNoEnd, is_end}
+use Rattle.admin_worker.specs.Manners.{closing, first_manner, manner_behind, readers}
+use Rattle.admin_worker.specs.declared.manner.Manner.{Manner}
+use Rattle.admin_worker.specs.Status.{IsStatus, asked_in, is_blank, quits, refusal_at}
 use Rattle.worker_frame.specs.Told.{IsServed, stored_of, ShowsTold}
 use Rattle.worker_frame.specs.Traffic.{Advances, Traffic}
-use Rattle.worker_frame.specs.Lines.{HasNoEnd}
 
 -- a command's answer: people are told as well how far off a filter's next change is
 abbrev pub IsAnswerAt : Door → State → Command → List ℕ → Type 0
@@ -36,150 +38,184 @@ abbrev pub AnswersAt : Door → State → Command → List ℕ → List ℕ → 
 AnswersAt door book command old new =
     (answer : List ℕ) × (new ≡ old ++ answer) × IsAnswerAt door book command answer
 
--- a command's answer, and an empty line
-pub record AnswersWith (door : Door) (book : State) (command : Command) (text : List ℕ)
-    : Type 0 where
+-- the answer to a line's command, and what stands behind it
+pub record AnswersWith (manner : Manner) (book : State) (line : List ℕ) (command : Command)
+    (text : List ℕ) : Type 0 where
   pub answer : List ℕ
-  pub is : IsAnswerAt door book command answer
-  pub ends : text ≡ answer ++ codes "\n"
+  pub is : IsAnswerAt (readers manner) book command answer
+  pub ends : text ≡ answer ++ closing manner line
 
 -- a line says a command, whose change is asked for and whose answer is the text
-pub record IsObeyed (door : Door) (book : State) (line : List ℕ) (change : Option What)
+pub record IsObeyed (manner : Manner) (book : State) (line : List ℕ) (change : Option What)
     (text : List ℕ)
     : Type 0 where
   pub command : Command
   pub says : reading_of book line ≡ Ok command
   pub asks : change ≡ asked_event command
-  pub answers : AnswersWith door book command text
+  pub answers : AnswersWith manner book line command text
 
 -- a line is refused and asks for no change: the text tells its first fault, or that an allocation
--- failed as it was read, and an empty line
-pub record IsRefusedLine (door : Door) (book : State) (line : List ℕ) (change : Option What)
-    (text : List ℕ)
+-- failed as it was read, and what stands behind that
+pub record IsRefusedLine (manner : Manner) (book : State) (line : List ℕ)
+    (change : Option What) (text : List ℕ)
     : Type 0 where
   pub refused : Refused
   pub says : refused.fault ≢ NoMemory → reading_of book line ≡ Err refused
   pub none : change ≡ None
-  pub tells : text ≡ refusal_at door book line refused ++ codes "\n"
+  pub tells : text ≡ refusal_at (readers manner) book line refused ++ closing manner line
 
 -- a line that asks for no command on the book asks for no change: the text is the answer to what it
--- asks for, and an empty line
-pub record IsTold (door : Door) (book : State) (line : List ℕ) (asked : Asked)
+-- asks for, and what stands behind it
+pub record IsTold (manner : Manner) (book : State) (line : List ℕ) (asked : Asked)
     (change : Option What) (text : List ℕ) : Type 0 where
   pub answer : List ℕ
-  pub is : IsStatus door book line asked answer
+  pub is : IsStatus (readers manner) book line asked answer
   pub none : change ≡ None
-  pub ends : text ≡ answer ++ codes "\n"
+  pub ends : text ≡ answer ++ closing manner line
 
 -- what a line is answered that asks for this; for nothing, it is a command on the book
-abbrev pub RepliesTo : Door → Option Asked → State → List ℕ → Option What → List ℕ → Type 0
-RepliesTo door None book line change text =
-    IsObeyed door book line change text ⊎ IsRefusedLine door book line change text
-RepliesTo door (Some asked) book line change text = IsTold door book line asked change text
+abbrev pub RepliesTo : Manner → Option Asked → State → List ℕ → Option What → List ℕ → Type 0
+RepliesTo manner None book line change text =
+    IsObeyed manner book line change text ⊎ IsRefusedLine manner book line change text
+RepliesTo manner (Some asked) book line change text = IsTold manner book line asked change text
 
 -- what a line is answered over a book, and what it changes
-abbrev pub Replies : Door → State → List ℕ → Option What → List ℕ → Type 0
-Replies door book line change text =
-    RepliesTo door (asked_in book.config line) book line change text
+abbrev pub Replies : Manner → State → List ℕ → Option What → List ℕ → Type 0
+Replies manner book line change text =
+    RepliesTo manner (asked_in book.config line) book line change text
 
--- a line without its LF, what it changed if it asked for a change, the text that answers it, and
--- the list whose book answered
+-- a part of a line without its end, what it changed if it asked for a change, the text that answers
+-- it, and the list whose book answered
 pub record Reply : Type 0 where
   pub line : List ℕ
   pub change : Option What
   pub text : List ℕ
   pub seen : Beginning
 
--- a line that doesn't ask to quit is answered over the book of a list that begins with an earlier
--- one, and shows all that its seat told before
-pub record IsReply (door : Door) (since : Beginning) (seat : ℕ) (told : List What)
+-- a command that doesn't ask to quit is answered over the book of a list that begins with an
+-- earlier one, and shows all that its seat told before
+pub record IsReply (manner : Manner) (since : Beginning) (seat : ℕ) (told : List What)
     (reply : Reply) : Type 0 where
-  pub whole : HasNoEnd reply.line
   pub stays : quits reply.line ≡ false
   pub follows : Follows since reply.seen
   pub shows : ShowsTold seat told reply.seen
   pub book : State
   pub stands : IsBookOf book reply.seen
-  pub says : Replies door book reply.line reply.change reply.text
+  pub says : Replies manner book reply.line reply.change reply.text
 
--- the lines that were answered, of which the newest reply is first, each with its LF
-abbrev pub lines_in : List Reply → List ℕ
+-- nothing is changed nor answered
+pub record IsSilent (since : Beginning) (reply : Reply) : Type 0 where
+  pub none : reply.change ≡ None
+  pub silent : reply.text ≡ []
+  pub same : reply.seen ≡ since
+
+-- what a part is answered: nothing, or as a command is
+abbrev pub RepliesIf : Bool → Manner → Beginning → ℕ → List What → Reply → Type 0
+RepliesIf true manner since seat told reply = IsSilent since reply
+RepliesIf false manner since seat told reply = IsReply manner since seat told reply
+
+-- a part that ended: its reply, and the byte that ends it
+pub record Part : Type 0 where
+  pub reply : Reply
+  pub end : ℕ
+
+-- a blank part behind `;` is no command
+abbrev pub is_silent : Bool → List ℕ → Bool
+is_silent behind line = behind && is_blank line
+
+-- what stands between two ends, behind `;` or not, has its reply
+pub record IsPart (manner : Manner) (since : Beginning) (seat : ℕ) (told : List What)
+    (part : Part) : Type 0 where
+  pub whole : HasNoEnd part.reply.line
+  pub ends : is_end part.end ≡ true
+  pub says : RepliesIf (is_silent manner.behind part.reply.line) manner since seat told part.reply
+
+-- the parts that were answered, of which the newest is first, each with its end
+abbrev pub lines_in : List Part → List ℕ
 lines_in [] = []
-lines_in (reply ∷ earlier) = lines_in earlier ++ (reply.line ++ 10 ∷ [])
+lines_in (part ∷ earlier) = lines_in earlier ++ (part.reply.line ++ part.end ∷ [])
 
 -- what they changed
-abbrev pub changes_in : List Reply → List What
+abbrev pub changes_in : List Part → List What
 changes_in [] = []
-changes_in (reply ∷ earlier) = changes_in earlier ++ option_to_list reply.change
+changes_in (part ∷ earlier) = changes_in earlier ++ option_to_list part.reply.change
 
 -- what they were answered
-abbrev pub texts_in : List Reply → List ℕ
+abbrev pub texts_in : List Part → List ℕ
 texts_in [] = []
-texts_in (reply ∷ earlier) = texts_in earlier ++ reply.text
+texts_in (part ∷ earlier) = texts_in earlier ++ part.reply.text
 
 -- the list that the newest reply is of, and the hub's before the first
-abbrev pub seen_by : Beginning → List Reply → Beginning
+abbrev pub seen_by : Beginning → List Part → Beginning
 seen_by hub [] = hub
-seen_by hub (reply ∷ earlier) = reply.seen
+seen_by hub (part ∷ earlier) = part.reply.seen
 
--- each line was answered behind what those before it changed; their lists begin with one another
-abbrev pub AreReplies : Door → Beginning → ℕ → List Reply → Type 0
+-- how the next part is answered: by the `prompt`s before it, and behind `;` or not
+abbrev pub manner_of : Door → List Part → Manner
+manner_of door [] = first_manner door
+manner_of door (part ∷ earlier) = manner_behind (manner_of door earlier) part.reply.line part.end
+
+-- each part was answered behind what those before it changed and asked for; their lists begin with
+-- one another
+abbrev pub AreReplies : Door → Beginning → ℕ → List Part → Type 0
 AreReplies door hub seat [] = ⊤
-AreReplies door hub seat (reply ∷ earlier) =
-    IsReply door (seen_by hub earlier) seat (changes_in earlier) reply
+AreReplies door hub seat (part ∷ earlier) =
+    IsPart (manner_of door earlier) (seen_by hub earlier) seat (changes_in earlier) part
     × AreReplies door hub seat earlier
 
--- all lines that ended were answered, and what they changed was told; one that hasn't ended is
+-- all parts that ended were answered, and what they changed was told; one that hasn't ended is
 -- dropped
 pub record AllAnswered (door : Door) (hub : Beginning) (seat : ℕ) (Told : List What → ℕ → Type 0)
     (bytes written : List ℕ) : Type 0 where
-  pub replies : List Reply
+  pub parts : List Part
   pub line : List ℕ
-  pub are : AreReplies door hub seat replies
-  pub read : bytes ≡ lines_in replies ++ line
+  pub are : AreReplies door hub seat parts
+  pub read : bytes ≡ lines_in parts ++ line
   pub unended : HasNoEnd line
-  pub told : Told (changes_in replies) 0
-  pub answered : written ≡ texts_in replies
+  pub told : Told (changes_in parts) 0
+  pub answered : written ≡ texts_in parts
 
--- all lines before the first that asks to quit were answered, and what they changed was told; that
+-- all parts before the first that asks to quit were answered, and what they changed was told; that
 -- one and what follows it are dropped
 pub record AnsweredToQuit (door : Door) (hub : Beginning) (seat : ℕ) (Told : List What → ℕ → Type 0)
     (bytes written : List ℕ) : Type 0 where
-  pub replies : List Reply
+  pub parts : List Part
   pub line : List ℕ
   pub later : List ℕ
-  pub are : AreReplies door hub seat replies
-  pub read : bytes ≡ lines_in replies ++ (line ++ 10 ∷ later)
+  pub are : AreReplies door hub seat parts
+  pub end : ℕ
+  pub read : bytes ≡ lines_in parts ++ (line ++ end ∷ later)
   pub whole : HasNoEnd line
+  pub ends : is_end end ≡ true
   pub leaves : quits line ≡ true
-  pub told : Told (changes_in replies) 0
-  pub answered : written ≡ texts_in replies
+  pub told : Told (changes_in parts) 0
+  pub answered : written ≡ texts_in parts
 
--- the first lines were answered, and what they changed was told; but of the last one's answer only
+-- the first parts were answered, and what they changed was told; but of the last one's answer only
 -- a beginning was written
 pub record LastCutShort (door : Door) (hub : Beginning) (seat : ℕ) (Told : List What → ℕ → Type 0)
     (bytes written : List ℕ) : Type 0 where
-  pub replies : List Reply
-  pub last : Reply
+  pub parts : List Part
+  pub last : Part
   pub later : List ℕ
   pub front : List ℕ
   pub rest : List ℕ
-  pub are : AreReplies door hub seat (last ∷ replies)
-  pub read : bytes ≡ lines_in (last ∷ replies) ++ later
-  pub told : Told (changes_in (last ∷ replies)) 0
-  pub text : last.text ≡ front ++ rest
-  pub answered : written ≡ texts_in replies ++ front
+  pub are : AreReplies door hub seat (last ∷ parts)
+  pub read : bytes ≡ lines_in (last ∷ parts) ++ later
+  pub told : Told (changes_in (last ∷ parts)) 0
+  pub text : last.reply.text ≡ front ++ rest
+  pub answered : written ≡ texts_in parts ++ front
 
--- the first lines were answered, and what they changed was told; of the later ones nothing was told
+-- the first parts were answered, and what they changed was told; of the later ones nothing was told
 -- nor answered, and so many events are stored all the same
 pub record LaterRefused (door : Door) (hub : Beginning) (seat : ℕ) (Told : List What → ℕ → Type 0)
     (bytes written : List ℕ) (stored : ℕ) : Type 0 where
-  pub replies : List Reply
+  pub parts : List Part
   pub later : List ℕ
-  pub are : AreReplies door hub seat replies
-  pub read : bytes ≡ lines_in replies ++ later
-  pub told : Told (changes_in replies) stored
-  pub answered : written ≡ texts_in replies
+  pub are : AreReplies door hub seat parts
+  pub read : bytes ≡ lines_in parts ++ later
+  pub told : Told (changes_in parts) stored
+  pub answered : written ≡ texts_in parts
 
 -- how an admin ends that read and wrote these bytes
 abbrev pub EndsCommands : Door → Beginning → ℕ → (List What → ℕ → Type 0) → List ℕ → List ℕ → Cause
@@ -191,7 +227,7 @@ EndsCommands door hub seat Told bytes written (Post fault) =
     LaterRefused door hub seat Told bytes written (stored_of fault 1)
 EndsCommands door hub seat Told bytes written Look = LaterRefused door hub seat Told bytes written 0
 
--- how an admin was served at Ok: all lines that its source gave were answered, or all before the
+-- how an admin was served at Ok: all parts that its source gave were answered, or all before the
 -- first that asks to quit
 pub record IsCommandedWhole (door : Door) (hub : Beginning) (seat : ℕ)
     (start now : Traffic) (served : Served) : Type 0 where

@@ -1,6 +1,6 @@
 -- What a line asks for that is no command on the book.
-use Rattle.std.specs.Prelude.{◌≡◌, ℕ, Bool, false, if◌then◌else◌, nat_lt, List, [], ◌∷◌, codes}
-use Rattle.std.specs.Prelude.{length, position, Option, None, Some}
+use Rattle.std.specs.Prelude.{◌≡◌, ℕ, Bool, true, false, ◌||◌, if◌then◌else◌, nat_lt, List, [], ◌∷◌}
+use Rattle.std.specs.Prelude.{codes, length, position, Option, None, Some}
 use Rattle.std.specs.Str.{bytes_eq}
 use Rattle.agg_config.specs.Written.{text_of}
 use Rattle.agg_types.specs.declared.config.Config.{Config}
@@ -55,7 +55,9 @@ shown config (word ∷ ws) =
     else if bytes_eq word (codes "peers") then peers_asked config ws
     else if bytes_eq word (codes "config") then alone asks.Config ws
     else if bytes_eq word (codes "filters") then alone asks.Filters ws
+    else if bytes_eq word (codes "filter") then alone asks.Filters ws
     else if bytes_eq word (codes "ranks") then alone asks.Ranks ws
+    else if bytes_eq word (codes "rank") then alone asks.Ranks ws
     else None
 
 -- what words ask for
@@ -63,6 +65,7 @@ abbrev pub asked_by : Config → List (List ℕ) → Option Asked
 asked_by config [] = None
 asked_by config (word ∷ ws) =
     if bytes_eq word (codes "help") then alone (asks.Status Help) ws
+    else if bytes_eq word (codes "prompt") then alone asks.Prompt ws
     else if bytes_eq word (codes "show") then shown config ws
     else None
 
@@ -70,15 +73,28 @@ asked_by config (word ∷ ws) =
 unfoldable pub asked_in : Config → List ℕ → Option Asked
 asked_in config line = by_words None (asked_by config) line
 
--- whether these words are `quit` alone
+-- whether a word ends a connection
+abbrev pub says_quit : List ℕ → Bool
+says_quit word = bytes_eq word (codes "quit") || bytes_eq word (codes "exit")
+
+-- whether these words are `quit` or `exit` alone
 abbrev pub is_quit : List (List ℕ) → Bool
 is_quit [] = false
-is_quit (word ∷ []) = bytes_eq word (codes "quit")
+is_quit (word ∷ []) = says_quit word
 is_quit (word ∷ more ∷ ws) = false
 
 -- whether a line asks that its connection ends
 unfoldable pub quits : List ℕ → Bool
 quits line = by_words false is_quit line
+
+-- whether there is no word
+abbrev pub is_wordless : List (List ℕ) → Bool
+is_wordless [] = true
+is_wordless (word ∷ ws) = false
+
+-- whether a line has no word
+unfoldable pub is_blank : List ℕ → Bool
+is_blank line = by_words false is_wordless line
 
 -- the refusal of a line: people are told which word is wrong, and what was expected
 abbrev pub refusal_at : Door → State → List ℕ → Refused → List ℕ
@@ -95,4 +111,5 @@ IsStatus door book line (asks.Status status) answer = Unit {0}
 IsStatus door book line asks.Config answer = answer ≡ text_of book.config
 IsStatus door book line asks.Filters answer = answer ≡ filter_lines book.config
 IsStatus door book line asks.Ranks answer = answer ≡ rank_lines book.config
+IsStatus door book line asks.Prompt answer = answer ≡ []
 IsStatus door book line asks.NoPeer answer = answer ≡ refusal_at door book line no_peer

@@ -1,39 +1,43 @@
-//! One admin connection: commands of a line each, and their answers.
+//! One admin connection: commands, and their answers.
 
-ghost use Rattle.std.specs.Prelude.{◌≡◌, ◌<◌, ◌≤◌, ◌+◌, ◌^◌, ◌⊎◌, ◌++◌, ◌∷◌, ℕ, List, [], Err};
-ghost use Rattle.std.specs.Prelude.{IfErr, MatchResult};
+ghost use Rattle.std.specs.Prelude.{◌≡◌, ◌<◌, ◌≤◌, ◌+◌, ◌^◌, ◌⊎◌, ◌++◌, ◌∷◌, ℕ, List, [], true};
+ghost use Rattle.std.specs.Prelude.{Err, false, IfErr, MatchResult};
 ghost use Rattle.hub.specs.Posts.{Follows, SitsDown};
-ghost use Rattle.worker_frame.specs.Lines.{HasNoEnd};
 ghost use Rattle.worker_frame.specs.Traffic.{Traffic, so_far};
 ghost use Rattle.worker_frame.specs.declared.source.TheConstants.{MOST_READS};
 ghost use Rattle.admin_worker.specs.Commanding.{HasLearned, IsAtHub, KeepsPoster, RunsOut, Takes};
 ghost use Rattle.admin_worker.specs.Commanding.{Works, WorksOn};
 ghost use Rattle.admin_worker.specs.Commands.{IsCommandedUntil, IsCommandedWhole};
+ghost use Rattle.admin_worker.specs.Framing.{HasNoEnd, is_end};
+ghost use Rattle.admin_worker.specs.Manners.{first_manner};
+ghost use Rattle.worker_frame.specs.declared.door.Door.{Door};
 
 use crate::asked::quits;
 use crate::faults::LineFault;
-use crate::obeying::{obey, refused};
+use crate::framing::split_command;
+use crate::obeying::{obey_part, refused};
 use crate::worker::AdminWorker;
 use hub::{Lens, Naming, Pass};
 use std::io::Write;
 use std::sync::Wait;
 use worker_frame::{
     Came, Cause, Clock, Context, Door, Faulted, Gate, Link, MOST_READS, Served, Source, buffer,
-    front, split_line,
+    front,
 };
 
-// Obeys the line that these bytes end, unless it asks to quit. Whether the connection goes on.
-fn end_line<J: Naming, H: Wait + Drop, R: Wait, C: Clock, G: Gate, W: Write>(
+// Obeys the part whose last bytes these are, and that ends so, unless it asks to quit. Whether the
+// connection goes on.
+fn end_part<J: Naming, H: Wait + Drop, R: Wait, C: Clock, G: Gate, W: Write>(
     context: &Context<'_, J, H, R, C, G>,
     worker: &mut AdminWorker,
     writer: &mut W,
     bytes: &[u8],
-    door: Door,
+    end: u8,
 ) -> Result<bool, LineFault>
     requires { IsAtHub context.now.hub.now worker.old }
     ensures keeps { KeepsPoster context.now.hub.now worker.old worker.new }
-    ensures takes { (rest : List ℕ) → HasNoEnd bytes.now
-        → Takes door context.now.hub.now worker.old worker.new (bytes.now ++ 10 ∷ rest) rest
+    ensures takes { (rest : List ℕ) → HasNoEnd bytes.now → is_end end ≡ true
+        → Takes context.now.hub.now worker.old worker.new (bytes.now ++ end ∷ rest) rest
         (W.contents writer.old) (W.contents writer.new) result }
 {
     if worker.keep(bytes).is_err() {
@@ -42,28 +46,30 @@ fn end_line<J: Naming, H: Wait + Drop, R: Wait, C: Clock, G: Gate, W: Write>(
     if quits(worker.line.as_slice()) {
         return Ok(false);
     }
-    obey(context, worker, writer, door)?;
+    let text = worker.line.as_slice();
+    let next = worker.manner.follow(text, end);
+    obey_part(context, worker, writer)?;
     worker.line.clear();
+    worker.manner = next;
     Ok(true)
 }
 
-// Takes a piece: each line that ends in it is obeyed, up to one that asks to quit. Whether the
+// Takes a piece: each part that ends in it is obeyed, up to one that asks to quit. Whether the
 // connection goes on.
-fn take_lines<J: Naming, H: Wait + Drop, R: Wait, C: Clock, G: Gate, W: Write>(
+fn take_parts<J: Naming, H: Wait + Drop, R: Wait, C: Clock, G: Gate, W: Write>(
     context: &Context<'_, J, H, R, C, G>,
     worker: &mut AdminWorker,
     writer: &mut W,
     piece: &[u8],
-    door: Door,
 ) -> Result<bool, LineFault>
     requires { IsAtHub context.now.hub.now worker.old }
     ensures keeps { KeepsPoster context.now.hub.now worker.old worker.new }
-    ensures takes { Takes door context.now.hub.now worker.old worker.new piece.now []
+    ensures takes { Takes context.now.hub.now worker.old worker.new piece.now []
         (W.contents writer.old) (W.contents writer.new) result }
 {
     let mut rest = piece;
-    while let Some((front, behind)) = split_line(rest) {
-        let goes = end_line(context, worker, writer, front, door)?;
+    while let Some((front, end, behind)) = split_command(rest) {
+        let goes = end_part(context, worker, writer, front, end)?;
         if !goes {
             return Ok(false);
         }
@@ -81,7 +87,6 @@ fn turn_admin<J: Naming, H: Wait + Drop, R: Wait, C: Clock, G: Gate, S: Source, 
     worker: &mut AdminWorker,
     link: &mut Link<S, W>,
     buffer: &mut [u8],
-    door: Door,
 ) -> Result<bool, Cause>
     requires reads { S.reads link.old.source < 2 ^ 62 }
     requires at { IsAtHub context.now.hub.now worker.old }
@@ -90,7 +95,7 @@ fn turn_admin<J: Naming, H: Wait + Drop, R: Wait, C: Clock, G: Gate, S: Source, 
     ensures failed { S.failed link.old.source ≤ S.failed link.new.source }
     ensures read { result ≡ Err Cause.Read
         → S.failed link.old.source < S.failed link.new.source }
-    ensures works { (seat : ℕ) (start : Traffic)
+    ensures works { (door : Door) (seat : ℕ) (start : Traffic)
         → Works door context.now.hub.now seat worker.old [] start
         (so_far (S.given link.old.source) (W.contents link.old.writer))
         → WorksOn door context.now.hub.now seat worker.new [] start
@@ -102,31 +107,26 @@ fn turn_admin<J: Naming, H: Wait + Drop, R: Wait, C: Clock, G: Gate, S: Source, 
         Ok(Came::Nothing) => Ok(worker.wait()),
         Ok(Came::Bytes(count)) => {
             worker.silent = 0;
-            Ok(take_lines(
-                context,
-                worker,
-                &mut link.writer,
-                front(buffer, count),
-                door,
-            )?)
+            Ok(take_parts(context, worker, &mut link.writer, front(buffer, count))?)
         }
     }
 }
 
-// Reads until the source ends, a line asks to quit, the gate says so, or a fault comes.
+// Reads until the source ends, a part asks to quit, the gate says so, or a fault comes.
 fn run_admin<J: Naming, H: Wait + Drop, R: Wait, C: Clock, G: Gate, S: Source, W: Write>(
     context: &Context<'_, J, H, R, C, G>,
     worker: &mut AdminWorker,
     link: &mut Link<S, W>,
-    door: Door,
 ) -> Result<(), Cause>
     requires reads { S.reads link.old.source ≡ 0 }
     requires at { IsAtHub context.now.hub.now worker.old }
     requires line { worker.old.line.bytes.items ≡ [] }
+    requires manner { worker.old.manner ≡ first_manner worker.old.manner.door }
     requires learned { HasLearned context.now.hub.now context.now.hub.now
         worker.old.poster.pass.seat worker.old [] }
     ensures keeps { KeepsPoster context.now.hub.now worker.old worker.new }
-    ensures works { RunsOut door context.now.hub.now worker.old.poster.pass.seat worker.new
+    ensures works { RunsOut worker.old.manner.door context.now.hub.now
+        worker.old.poster.pass.seat worker.new
         (so_far (S.given link.old.source) (W.contents link.old.writer))
         (so_far (S.given link.new.source) (W.contents link.new.writer)) result }
     ensures read { result ≡ Err Cause.Read
@@ -140,7 +140,7 @@ fn run_admin<J: Naming, H: Wait + Drop, R: Wait, C: Clock, G: Gate, S: Source, W
         if context.gate.stop() {
             return Ok(());
         }
-        let goes = turn_admin(context, worker, link, buffer.as_mut_slice(), door)?;
+        let goes = turn_admin(context, worker, link, buffer.as_mut_slice())?;
         if !goes {
             return Ok(());
         }
@@ -150,14 +150,13 @@ fn run_admin<J: Naming, H: Wait + Drop, R: Wait, C: Clock, G: Gate, S: Source, W
 
 /// Serves one admin connection, with a lens of its own and a pass that has posted nothing.
 ///
-/// A line ends with LF; one that hasn't ended when the connection does is dropped. Its answer
-/// has an empty line behind it, and is made whole, and the look given up, before anything is
-/// posted or written. A change is posted, learned and told, and then answered `ok`. A line
-/// `quit` ends the connection, without an answer; so do 20 reads in a row that gave nothing.
-/// `door` says for whom the answers are.
-///
-/// Behind a look of 5 ms or more it rests as long before the next one, unless the gate says
-/// stop.
+/// A line ends with LF, and several commands on it are parted by `;`. Each is obeyed as soon as it
+/// ends; one that hasn't ended when the connection does is dropped. Its answer has an empty line
+/// behind it, and is made whole, and the look given up, before anything is posted or written. A
+/// change is posted, learned and told, and then answered `ok`. A blank part behind a `;` is no
+/// command. `prompt` turns whether a prompt stands behind each answer, and answers are for people
+/// then. `quit` or `exit` ends the connection, without an answer; so do 20 reads in a row that gave
+/// nothing. `door` says for whom the answers are else.
 pub fn serve_admin<J: Naming, H: Wait + Drop, R: Wait, C: Clock, G: Gate, S: Source, W: Write>(
     context: &Context<'_, J, H, R, C, G>,
     link: &mut Link<S, W>,
@@ -184,8 +183,8 @@ pub fn serve_admin<J: Naming, H: Wait + Drop, R: Wait, C: Clock, G: Gate, S: Sou
         ⊎ (S.reads link.new.source ≡ MOST_READS)) }
 {
     let sender = link.source.sender();
-    let mut worker = AdminWorker::new(context.alloc, lens, pass, sender);
-    let ended = run_admin(context, &mut worker, link, door);
+    let mut worker = AdminWorker::new(context.alloc, lens, pass, sender, door);
+    let ended = run_admin(context, &mut worker, link);
     let served = worker.into_poster().leave(context.rt, context.hub);
     match ended {
         Ok(()) => Ok(served),

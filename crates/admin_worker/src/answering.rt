@@ -1,14 +1,16 @@
 //! What an admin's line is answered over a book.
 
-ghost use Rattle.std.specs.Prelude.{◌≡◌, ◌++◌, codes, None, IfOk, IfSome, OnOk};
+ghost use Rattle.std.specs.Prelude.{◌≡◌, ◌++◌, None, IfOk, IfSome, OnOk};
 ghost use Rattle.agg_types.specs.declared.config.Config.{Config};
 ghost use Rattle.hub.specs.Roll.{MayPost};
 ghost use Rattle.admin_worker.specs.Commands.{AnswersAt, AnswersWith, IsTold, Replies, RepliesTo};
+ghost use Rattle.admin_worker.specs.Manners.{closing, readers};
 ghost use Rattle.admin_worker.specs.Status.{IsStatus, no_peer, refusal_at};
 ghost use Rattle.show_clear.specs.Answer.{NamesExist};
 ghost use Rattle.show_clear.specs.Change.{asked_event};
 
 use crate::asked::{Asked, asked_in};
+use crate::manner::Manner;
 use agg_types::{NoMemory, What};
 use book::Book;
 use config_text::{append_config, append_filters, append_ranks};
@@ -19,7 +21,7 @@ use show_clear::{
 use std::alloc::Global;
 use worker_frame::{Door, Gate};
 
-/// What a line is answered, with an empty line behind it, and the change that it asks for.
+/// What a line is answered, with what stands behind that, and the change that it asks for.
 #[derive(Drop)]
 pub struct Answered {
     pub change: Option<What>,
@@ -61,15 +63,21 @@ fn append_refusal(
     }
 }
 
-/// The answer to a command.
-fn obeyed(alloc: Global, book: &Book, command: Command, door: Door) -> Result<Answered, NoMemory>
+/// The answer to a line's command.
+fn obeyed(
+    alloc: Global,
+    book: &Book,
+    line: &[u8],
+    command: Command,
+    manner: Manner,
+) -> Result<Answered, NoMemory>
     requires { NamesExist book.now command }
     ensures change { IfOk result (λ a. a.change ≡ asked_event command) }
-    ensures text { IfOk result (λ a. AnswersWith door book.now command a.text.items) }
+    ensures text { IfOk result (λ a. AnswersWith manner book.now line.now command a.text.items) }
 {
     let mut text = Vec::new(alloc);
-    append_answer(alloc, book, &command, door, &mut text)?;
-    text.push(b'\n')?;
+    append_answer(alloc, book, &command, manner.readers(), &mut text)?;
+    text.extend_from_slice(manner.closing(line))?;
     Ok(Answered {
         change: command.into_event(),
         text,
@@ -82,15 +90,15 @@ fn refused_line(
     book: &Book,
     line: &[u8],
     refused: Refused,
-    door: Door,
+    manner: Manner,
 ) -> Result<Answered, NoMemory>
     ensures change { IfOk result (λ a. a.change ≡ None) }
-    ensures text { IfOk result
-        (λ a. a.text.items ≡ refusal_at door book.now line.now refused ++ codes "\n") }
+    ensures text { IfOk result (λ a. a.text.items
+        ≡ refusal_at (readers manner) book.now line.now refused ++ closing manner line.now) }
 {
     let mut text = Vec::new(alloc);
-    append_refusal(alloc, book, line, refused, door, &mut text)?;
-    text.push(b'\n')?;
+    append_refusal(alloc, book, line, refused, manner.readers(), &mut text)?;
+    text.extend_from_slice(manner.closing(line))?;
     Ok(Answered { change: None, text })
 }
 
@@ -99,16 +107,16 @@ fn answer_to_command(
     alloc: Global,
     book: &Book,
     line: &[u8],
-    door: Door,
+    manner: Manner,
 ) -> Result<Answered, NoMemory>
     ensures replies { IfOk result
-        (λ a. RepliesTo door None book.now line.now a.change a.text.items) }
+        (λ a. RepliesTo manner None book.now line.now a.change a.text.items) }
     ensures fits { (config : Config) → config.tables ≡ book.now.config.tables
         → IfOk result (λ a. IfSome a.change (MayPost config)) }
 {
     match read_command(alloc, book, line) {
-        Ok(command) => obeyed(alloc, book, command, door),
-        Err(refused) => refused_line(alloc, book, line, refused, door),
+        Ok(command) => obeyed(alloc, book, line, command, manner),
+        Err(refused) => refused_line(alloc, book, line, refused, manner),
     }
 }
 
@@ -136,6 +144,7 @@ fn status_text<G: Gate>(
         Asked::Config => append_config(book.config(), &mut text)?,
         Asked::Filters => append_filters(book.config(), &mut text)?,
         Asked::Ranks => append_ranks(book.config(), &mut text)?,
+        Asked::Prompt => {}
         Asked::NoPeer => { append_refusal(alloc, book, line, no_peer(), door, &mut text)? }
     }
     Ok(text)
@@ -148,14 +157,14 @@ fn told<G: Gate>(
     book: &Book,
     line: &[u8],
     asked: Asked,
-    door: Door,
+    manner: Manner,
 ) -> Result<Answered, NoMemory>
     ensures change { IfOk result (λ a. a.change ≡ None) }
     ensures told { IfOk result
-        (λ a. IsTold door book.now line.now asked a.change a.text.items) }
+        (λ a. IsTold manner book.now line.now asked a.change a.text.items) }
 {
-    let mut text = status_text(alloc, gate, book, line, asked, door)?;
-    text.push(b'\n')?;
+    let mut text = status_text(alloc, gate, book, line, asked, manner.readers())?;
+    text.extend_from_slice(manner.closing(line))?;
     Ok(Answered { change: None, text })
 }
 
@@ -165,14 +174,14 @@ pub fn answer_to<G: Gate>(
     gate: &G,
     book: &Book,
     line: &[u8],
-    door: Door,
+    manner: Manner,
 ) -> Result<Answered, NoMemory>
-    ensures replies { IfOk result (λ a. Replies door book.now line.now a.change a.text.items) }
+    ensures replies { IfOk result (λ a. Replies manner book.now line.now a.change a.text.items) }
     ensures fits { (config : Config) → config.tables ≡ book.now.config.tables
         → IfOk result (λ a. IfSome a.change (MayPost config)) }
 {
     match asked_in(book.config(), line) {
-        None => answer_to_command(alloc, book, line, door),
-        Some(asked) => told(alloc, gate, book, line, asked, door),
+        None => answer_to_command(alloc, book, line, manner),
+        Some(asked) => told(alloc, gate, book, line, asked, manner),
     }
 }

@@ -1,9 +1,10 @@
-//! Lines that ask for what the collector itself has to tell, and the line that ends a connection.
+//! Lines that ask for what the collector itself has to tell, and those that end a connection.
 
 ghost use Rattle.std.specs.Prelude.{◌≡◌};
 ghost use Rattle.line_words.specs.Words.{words};
-ghost use Rattle.admin_worker.specs.Status.{alone, asked_by, asked_in, is_quit, peer_named};
-ghost use Rattle.admin_worker.specs.Status.{peers_asked, quits, shown};
+ghost use Rattle.admin_worker.specs.Manners.{asks_prompt, is_prompt};
+ghost use Rattle.admin_worker.specs.Status.{alone, asked_by, asked_in, is_blank, is_quit};
+ghost use Rattle.admin_worker.specs.Status.{peer_named, peers_asked, quits, says_quit, shown};
 
 use agg_types::Config;
 use agg_types::limits::LONGEST_COMMAND_LINE;
@@ -24,6 +25,8 @@ pub enum Asked {
     Ranks,
     /// A peer that isn't configured.
     NoPeer,
+    /// A prompt behind each answer, or none any more.
+    Prompt,
 }
 
 /// What a line asks for, if it is none of the commands on the book. It comes without its LF; CRs at
@@ -56,8 +59,51 @@ fn is_quit(line: &[u8]) -> bool
 {
     match next_word(line) {
         None => false,
-        Some((word, rest)) => word == b"quit".as_slice() && next_word(rest).is_none(),
+        Some((word, rest)) => says_quit(word) && next_word(rest).is_none(),
     }
+}
+
+/// Whether a line asks for a prompt, or for none any more.
+#[tactic(auto, unfolding(crate::specs::Manners::asks_prompt))]
+pub(crate) fn asks_prompt(line: &[u8]) -> bool
+    ensures { result ≡ asks_prompt line.now }
+{
+    let text = without_returns(line);
+    if text.len() > LONGEST_COMMAND_LINE {
+        return false;
+    }
+    is_prompt(text)
+}
+
+fn is_prompt(line: &[u8]) -> bool
+    ensures { result ≡ is_prompt (words line.now) }
+{
+    match next_word(line) {
+        None => false,
+        Some((word, rest)) => word == b"prompt".as_slice() && next_word(rest).is_none(),
+    }
+}
+
+// Whether a word ends a connection.
+fn says_quit(word: &[u8]) -> bool
+    ensures { result ≡ says_quit word.now }
+{
+    match word {
+        b"quit" | b"exit" => true,
+        _ => false,
+    }
+}
+
+/// Whether a line has no word.
+#[tactic(auto, unfolding(crate::specs::Status::is_blank))]
+pub(crate) fn is_blank(line: &[u8]) -> bool
+    ensures { result ≡ is_blank line.now }
+{
+    let text = without_returns(line);
+    if text.len() > LONGEST_COMMAND_LINE {
+        return false;
+    }
+    next_word(text).is_none()
 }
 
 fn asked_by(config: &Config, line: &[u8]) -> Option<Asked>
@@ -66,6 +112,7 @@ fn asked_by(config: &Config, line: &[u8]) -> Option<Asked>
     let (word, rest) = next_word(line)?;
     match word {
         b"help" => alone(Asked::Status(Status::Help), rest),
+        b"prompt" => alone(Asked::Prompt, rest),
         b"show" => shown(config, rest),
         _ => None,
     }
@@ -81,7 +128,9 @@ fn shown(config: &Config, line: &[u8]) -> Option<Asked>
         b"peers" => peers_asked(config, rest),
         b"config" => alone(Asked::Config, rest),
         b"filters" => alone(Asked::Filters, rest),
+        b"filter" => alone(Asked::Filters, rest),
         b"ranks" => alone(Asked::Ranks, rest),
+        b"rank" => alone(Asked::Ranks, rest),
         _ => None,
     }
 }

@@ -3,17 +3,21 @@
 ghost use Rattle.std.specs.Prelude.{◌≡◌};
 
 use hub::PostFault;
+use thiserror::Error;
 use worker_frame::{Cause, WriteFailed};
 
 /// Why an admin ends at a line.
-#[derive(Drop)]
+#[derive(Debug, Drop, Error)]
 pub enum LineFault {
     /// A write failed.
+    #[error("write failed")]
     Write,
     /// A post was refused, or an allocation of the admin's own failed (no memory for no
     /// events).
+    #[error("{0}")]
     Post(PostFault),
     /// No copy of the book could be entered.
+    #[error("no copy to read")]
     Look,
 }
 

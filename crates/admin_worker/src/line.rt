@@ -5,13 +5,14 @@ ghost use Rattle.admin_worker.specs.Commanding.{kept_of, text_byte};
 
 use agg_types::NoMemory;
 use agg_types::limits::LONGEST_COMMAND_LINE;
+use bytes::BytesMut;
 use std::alloc::Global;
 
 /// A line that hasn't ended, of which no more is kept than a command may have and one byte that
 /// shows that it is too long: CRs behind it aren't counted.
 #[derive(Drop)]
 pub struct Line {
-    bytes: Vec<u8>,
+    bytes: BytesMut,
 }
 
 impl Line {
@@ -20,7 +21,7 @@ impl Line {
         ensures { result.bytes.items ≡ [] }
     {
         Line {
-            bytes: Vec::new(alloc),
+            bytes: BytesMut::new(alloc),
         }
     }
 
@@ -46,7 +47,7 @@ impl Line {
         let Some(byte) = text_byte(behind) else {
             return Ok(());
         };
-        if self.bytes.push(byte).is_err() {
+        if self.bytes.extend_from_slice(&[byte]).is_err() {
             self.bytes.truncate(len);
             return Err(NoMemory);
         }

@@ -1,15 +1,16 @@
-//! What an admin does for a line, and what it writes for it.
+//! What an admin does for a command, and what it writes for it.
 
 ghost use Rattle.std.specs.Prelude.{◌≡◌, ◌∷◌, ℕ, List, [], false, IfSome};
 ghost use Rattle.std.specs.Option.{option_to_list};
 ghost use Rattle.agg_types.specs.declared.event.What.{What};
 ghost use Rattle.hub.specs.History.{Beginning};
 ghost use Rattle.hub.specs.Roll.{MayPost};
-ghost use Rattle.worker_frame.specs.Lines.{HasNoEnd};
 ghost use Rattle.worker_frame.specs.Told.{stored_of};
 ghost use Rattle.admin_worker.specs.Commanding.{ChangesTo, HasLearned, HasLooked, IsAtHub};
 ghost use Rattle.admin_worker.specs.Commanding.{KeepsPoster, ObeysTo, kept_of};
+ghost use Rattle.admin_worker.specs.Commands.{is_silent};
 ghost use Rattle.admin_worker.specs.Status.{quits};
+ghost use Rattle.admin_worker.specs.declared.manner.Manner.{Manner};
 
 use crate::answering::Answered;
 use crate::faults::LineFault;
@@ -19,7 +20,7 @@ use hub::{Naming, PostFault};
 use std::alloc::Global;
 use std::io::Write;
 use std::sync::Wait;
-use worker_frame::{Clock, Context, Door, Gate, Place, send};
+use worker_frame::{Clock, Context, Gate, Place, send};
 
 /// An allocation of one's own that failed.
 pub fn refused(alloc: Global) -> PostFault
@@ -50,7 +51,7 @@ fn post_change<J: Naming, H: Wait + Drop, R: Wait, C: Clock, G: Gate>(
     Ok(())
 }
 
-// Does what a line asks for.
+// Does what a command asks for.
 fn carry_out<J: Naming, H: Wait + Drop, R: Wait, C: Clock, G: Gate>(
     context: &Context<'_, J, H, R, C, G>,
     worker: &mut AdminWorker,
@@ -70,8 +71,8 @@ fn carry_out<J: Naming, H: Wait + Drop, R: Wait, C: Clock, G: Gate>(
     }
 }
 
-// Does what a line asks for that was looked at, and writes its answer, which is for the readers
-// at some door.
+// Does what a command asks for that was looked at, and writes its answer, which was made in some
+// manner.
 fn reply<J: Naming, H: Wait + Drop, R: Wait, C: Clock, G: Gate, W: Write>(
     context: &Context<'_, J, H, R, C, G>,
     worker: &mut AdminWorker,
@@ -81,11 +82,11 @@ fn reply<J: Naming, H: Wait + Drop, R: Wait, C: Clock, G: Gate, W: Write>(
     requires at { IsAtHub context.now.hub.now worker.old }
     requires fits { IfSome answered.change (MayPost context.now.hub.now.config) }
     ensures keeps { KeepsPoster context.now.hub.now worker.old worker.new }
-    ensures obeys { (door : Door) (since : Beginning) (seat : ℕ) (whats : List What)
+    ensures obeys { (manner : Manner) (since : Beginning) (seat : ℕ) (whats : List What)
         (line : List ℕ)
-        → HasLooked door context.now.hub.now since seat worker.old whats line answered
-        → ObeysTo door context.now.hub.now since seat worker.new whats line (W.contents writer.old)
-        (W.contents writer.new) result }
+        → HasLooked manner context.now.hub.now since seat worker.old whats line answered
+        → ObeysTo false manner context.now.hub.now since seat worker.new whats line
+        (W.contents writer.old) (W.contents writer.new) result }
 {
     let Answered { change, text } = answered;
     carry_out(context, worker, change)?;
@@ -93,26 +94,45 @@ fn reply<J: Naming, H: Wait + Drop, R: Wait, C: Clock, G: Gate, W: Write>(
     Ok(())
 }
 
-/// Does what the line that is kept asks for, and writes its answer.
-pub fn obey<J: Naming, H: Wait + Drop, R: Wait, C: Clock, G: Gate, W: Write>(
+// Does what the command that is kept asks for, and writes its answer.
+fn obey<J: Naming, H: Wait + Drop, R: Wait, C: Clock, G: Gate, W: Write>(
     context: &Context<'_, J, H, R, C, G>,
     worker: &mut AdminWorker,
     writer: &mut W,
-    door: Door,
 ) -> Result<(), LineFault>
     requires { IsAtHub context.now.hub.now worker.old }
     ensures keeps { KeepsPoster context.now.hub.now worker.old worker.new }
     ensures obeys { (since : Beginning) (seat : ℕ) (whats : List What) (line : List ℕ)
         → HasLearned context.now.hub.now since seat worker.old whats
-        → worker.old.line.bytes.items ≡ kept_of line → HasNoEnd line → quits line ≡ false
-        → ObeysTo door context.now.hub.now since seat worker.new whats line (W.contents writer.old)
-        (W.contents writer.new) result }
+        → worker.old.line.bytes.items ≡ kept_of line → quits line ≡ false
+        → ObeysTo false worker.old.manner context.now.hub.now since seat worker.new whats line
+        (W.contents writer.old) (W.contents writer.new) result }
 {
     context.gate.turn(Place::Admin);
-    worker.pace.rest(context.clock, context.gate);
-    match worker.look(context.alloc, context.clock, context.gate, door) {
+    match worker.look(context.alloc, context.gate) {
         Ok(Some(answered)) => reply(context, worker, writer, answered),
         Ok(None) => Err(LineFault::Look),
         Err(NoMemory) => Err(LineFault::Post(refused(context.alloc))),
     }
+}
+
+/// Does what the part that is kept asks for, and writes its answer. A blank one behind a `;` asks
+/// for nothing.
+pub fn obey_part<J: Naming, H: Wait + Drop, R: Wait, C: Clock, G: Gate, W: Write>(
+    context: &Context<'_, J, H, R, C, G>,
+    worker: &mut AdminWorker,
+    writer: &mut W,
+) -> Result<(), LineFault>
+    requires { IsAtHub context.now.hub.now worker.old }
+    ensures keeps { KeepsPoster context.now.hub.now worker.old worker.new }
+    ensures obeys { (since : Beginning) (seat : ℕ) (whats : List What) (line : List ℕ)
+        → HasLearned context.now.hub.now since seat worker.old whats
+        → worker.old.line.bytes.items ≡ kept_of line → quits line ≡ false
+        → ObeysTo (is_silent worker.old.manner.behind line) worker.old.manner context.now.hub.now
+        since seat worker.new whats line (W.contents writer.old) (W.contents writer.new) result }
+{
+    if worker.is_silent() {
+        return Ok(());
+    }
+    obey(context, worker, writer)
 }

@@ -3,8 +3,8 @@
 //!
 //! `show_clear` puts its answers together of them. Each call appends behind bytes that are there
 //! already; after `NoMemory` a part of its text may stand behind them, and what was there is still
-//! in front. What the texts are stands in specs/Tables, specs/Lists, specs/Names and specs/KeyAnswer,
-//! as functions of rows, names and of the book's state.
+//! in front. What the texts are stands in specs/Tables, specs/Lists, specs/Names and
+//! specs/KeyAnswer, as functions of rows, names and of the book's state.
 #![tactic(auto)]
 
 mod fleet;

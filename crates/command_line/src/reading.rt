@@ -25,7 +25,7 @@ use std::convert::AsStr;
 use std::net::SocketAddr;
 
 /// The version of the program, as CHANGELOG.md has it.
-pub const VERSION: &str = "0.3.0";
+pub const VERSION: &str = "0.4.0";
 
 /// What help says of the options.
 const CONFIG: &str = "The configuration [default: standard input]";

@@ -9,42 +9,41 @@ use Rattle.std.specs.Option.{option_map, option_map_or}
 use Rattle.std.specs.List.Sorted.{IsStrictlySortedBy}
 use Rattle.std.specs.Prelude.{slice_get, slice_index_or}
 use Rattle.std.specs.Str.{bytes_eq}
-use Rattle.agg_types.proofs.Naming.{position-within}
 use Rattle.agg_types.specs.Naming.{place_of}
 use Rattle.agg_types.specs.declared.config.Filter.{Filter}
 use Rattle.agg_types.specs.declared.event.Event.{Event}
-use Rattle.book.specs.Flips.{held_in}
-use Rattle.fleet_model.proofs.KeyRows.{held-keys}
-use Rattle.fleet_model.proofs.Order.{ordered}
+use Rattle.agg_types.proofs.Naming.{position-within}
 use Rattle.fleet_model.specs.Answers.{filter_of, set_at}
 use Rattle.fleet_model.specs.Keys.{holds}
 use Rattle.fleet_model.specs.Laws.{IsOrdered, is_key_among}
 use Rattle.fleet_model.specs.State.{IsStateOf, State, state_of}
-use Rattle.hub.proofs.Showing.{later_on}
+use Rattle.fleet_model.proofs.KeyRows.{held-keys}
+use Rattle.fleet_model.proofs.Order.{ordered}
+use Rattle.standing_filters.specs.Flips.{later_of}
+use Rattle.standing_filters.specs.Turns.{same_key}
+use Rattle.set_changes.specs.Numbered.{Says, said_of as changed_of}
+use Rattle.set_changes.specs.declared.change.Change.{Change}
+use Rattle.book.specs.Flips.{held_in}
+use Rattle.pushed_keys.specs.Moves.{AreInOrder, AreMovedTo, IsMovedTo, is_in, said_of, set_of}
+use Rattle.pushed_keys.specs.declared.moved.Moved.{Moved}
+use Rattle.pushed_keys.specs.declared.told.Mark.{Mark}
+use Rattle.pushed_keys.specs.declared.pushed.Pushed.{Pushed}
+use Rattle.telling.specs.Telling.{AreOrdered, table_at, told_after, turn_at, turn_messages}
+use Rattle.telling.specs.Told.{Told}
+use Rattle.telling.specs.Unsaid.{Unsaid, unsaid_messages}
+use Rattle.telling.proofs.Brought.{marks_at}
+use Rattle.telling.proofs.InOrder.{turned_ordered}
+use Rattle.telling.proofs.Kept.{set_kept}
 use Rattle.hub.specs.Changing.{sets_of}
 use Rattle.hub.specs.History.{Beginning}
 use Rattle.hub.specs.Posts.{Follows}
 use Rattle.hub.specs.Views.{IsBookOf, Seeing}
+use Rattle.hub.proofs.Showing.{later_on}
+use Rattle.worker_frame.specs.declared.poster.Poster.{Poster}
 use Rattle.peer_worker.specs.Gathering.{AreMoves, AreSince, Each, IsMovedSince, state_behind}
 use Rattle.peer_worker.specs.Knowing.{Knows, KnowsAt, Pushing}
 use Rattle.peer_worker.specs.Tellings.{Brings, HoldsLast, SeesMore, TurnsOver}
 use Rattle.peer_worker.specs.Turns.{set_named, sets_in}
-use Rattle.worker_frame.specs.declared.poster.Poster.{Poster}
-use Rattle.set_changes.specs.Numbered.{Says, said_of as changed_of}
-use Rattle.set_changes.specs.declared.change.Change.{Change}
-use Rattle.standing_filters.specs.Flips.{later_of}
-use Rattle.standing_filters.specs.Turns.{same_key}
-use Rattle.telling.proofs.Brought.{marks_at}
-use Rattle.telling.proofs.InOrder.{turned_ordered}
-use Rattle.telling.proofs.Kept.{set_kept}
-use Rattle.telling.specs.Moves.{AreInOrder, AreMovedTo, AreOrdered, IsMovedTo, is_in, said_of}
-use Rattle.telling.specs.Moves.{set_of}
-use Rattle.telling.specs.Telling.{table_at, told_after, turn_at, turn_messages}
-use Rattle.telling.specs.Told.{Told}
-use Rattle.telling.specs.Unsaid.{Unsaid, unsaid_messages}
-use Rattle.telling.specs.declared.moved.Moved.{Moved}
-use Rattle.telling.specs.declared.told.Mark.{Mark}
-use Rattle.telling.specs.declared.pushed.Pushed.{Pushed}
 
 -- ---- what is said of a key
 

@@ -1,5 +1,6 @@
 -- Signals of a session that waits.
-use Rattle.std.proofs.Common.{◌≡◌, ℕ, List, [], ◌∷◌, ◌++◌, length, ◌==◌, true, Option, None, Ok}
+use Rattle.std.proofs.Common.{◌≡◌, ℕ, List, [], ◌∷◌, ◌++◌, length, ◌==◌, Bool, true, false, Option}
+use Rattle.std.proofs.Common.{None, Ok, not}
 use Rattle.std.proofs.Common.{refl, sym, ap, subst, append-nil, arith, ◌⊎◌, inl, inr, ◌∙◌}
 use Rattle.std.proofs.lemmas.Bool.Decides.{nat_tests}
 use Rattle.std.specs.Io.KnownBytes.{Appends}
@@ -14,9 +15,11 @@ use Rattle.hub.specs.History.{Beginning}
 use Rattle.peer_worker.proofs.Works.{signalled}
 use Rattle.worker_frame.specs.declared.poster.Poster.{Poster}
 use Rattle.worker_frame.specs.Told.{HasTold, IsWaiting}
+use Rattle.worker_frame.specs.Traffic.{so_far}
+use Rattle.peer_worker.specs.Working.{Works}
 use Rattle.peer_worker.specs.declared.waiting.Signal.{Signal}
-use Rattle.peer_worker.specs.Turns.{PosterTells, text_of_signal}
-use Rattle.peer_worker.specs.Waiting.{Signals}
+use Rattle.peer_worker.specs.Turns.{PosterTells, WroteSignal, text_of_signal}
+use Rattle.peer_worker.specs.Waiting.{Signals, SignalsIf, SignalsThen, WroteIf}
 use Rattle.peer_worker.specs.Working.{EndsFor, EndsTo}
 
 pub signals_none : (a : Option (List ℕ)) → Signals a a
@@ -27,6 +30,35 @@ pub signals_one : (signal : Signal) (a b : Option (List ℕ)) → Appends a b (t
 signals_one signal a b sends =
     λ hub seated worker start given w.
     signalled hub seated worker worker signal start given a b refl refl refl refl w sends
+
+-- signals follow signals, the last one perhaps cut short
+pub heard_on : (a b c : Option (List ℕ)) (goes : Bool)
+    → SignalsThen a (λ written. WroteIf true written b) → SignalsIf goes b c
+    → SignalsThen a (λ written. WroteIf goes written c)
+heard_on a b c true behind sends = record {
+  written = c;
+  signals = λ hub seated worker start given w. sends hub seated worker start given
+      (subst (λ wrote. Works hub seated worker start (so_far given wrote)) (sym behind.goes_on)
+      (behind.signals hub seated worker start given w));
+  goes_on = refl;
+}
+heard_on a b c false behind cut = record {
+  written = behind.written;
+  signals = behind.signals;
+  goes_on = subst (λ wrote. WroteSignal wrote c) behind.goes_on cut;
+}
+
+-- where signals could be written, nothing more was
+pub when_heard : (heard : Bool) (written after : Option (List ℕ)) → not heard ≡ false
+    → WroteIf heard written after → after ≡ written
+when_heard true written after is wrote = wrote
+when_heard false written after is wrote = absurd cc
+
+-- else some beginning of one was
+pub when_unheard : (heard : Bool) (written after : Option (List ℕ)) → not heard ≡ true
+    → WroteIf heard written after → WroteSignal written after
+when_unheard true written after is wrote = absurd cc
+when_unheard false written after is wrote = wrote
 
 -- a session that isn't ended for its silence stands for what it stood for, and was heard when it
 -- was heard

@@ -8,14 +8,14 @@ use Rattle.std.specs.Io.KnownBytes.{Appends}
 use Rattle.peers_msg.specs.Spelling.{message_spelling}
 use Rattle.peers_msg.specs.declared.message.Message.{Message}
 use Rattle.session_core.specs.Piece.{Setup}
-use Rattle.worker_frame.proofs.Sent.{wrote_more}
-use Rattle.worker_frame.specs.declared.writing.WriteFailed.{WriteFailed}
-use Rattle.peer_worker.specs.Tellings.{WritesOn}
-use Rattle.peer_worker.specs.Turns.{Piece, Say, Send, Tell, Turn, said_in, text_in, unsaid_in}
-use Rattle.worker_frame.specs.Writing.{Sends}
+use Rattle.pushed_keys.specs.declared.pushed.Pushed.{Pushed}
 use Rattle.telling.specs.Telling.{text_of, turn_text}
 use Rattle.telling.specs.Unsaid.{Unsaid, unsaid_messages}
-use Rattle.telling.specs.declared.pushed.Pushed.{Pushed}
+use Rattle.worker_frame.specs.declared.writing.WriteFailed.{WriteFailed}
+use Rattle.worker_frame.specs.Writing.{Sends}
+use Rattle.worker_frame.proofs.Sent.{wrote_more}
+use Rattle.peer_worker.specs.Tellings.{WritesOn}
+use Rattle.peer_worker.specs.Turns.{Piece, Say, Send, Tell, Turn, said_in, text_in, unsaid_in}
 
 text_both : (xs ys : List Message) → text_of (xs ++ ys) ≡ text_of xs ++ text_of ys
 text_both = flat_map-append message_spelling

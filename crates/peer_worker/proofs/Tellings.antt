@@ -15,14 +15,25 @@ use Rattle.session_core.specs.Batched.{Batched}
 use Rattle.session_core.specs.Piece.{Setup, setup_of}
 use Rattle.session_core.specs.Talk.{Grows, talk}
 use Rattle.session_core.specs.TalkAnswers.{OpensWith}
-use Rattle.hub.proofs.Showing.{later_on}
+use Rattle.session_core.specs.Asking.{asks_all}
+use Rattle.pushed_keys.specs.Pushes.{pushed_of}
+use Rattle.pushed_keys.specs.Rules.{is_told}
+use Rattle.pushed_keys.specs.Stands.{stands}
+use Rattle.pushed_keys.specs.declared.change.Turn.{Turn as Moment}
+use Rattle.pushed_keys.specs.declared.pushed.Pushed.{Pushed}
+use Rattle.pushed_keys.specs.declared.told.Mark.{Mark}
+use Rattle.telling.specs.Among.{AllMarks, IsAmong, IsMarked}
+use Rattle.telling.specs.Telling.{table_at, told_after, turn_at, turn_messages}
+use Rattle.telling.specs.Told.{Told}
+use Rattle.telling.specs.Unsaid.{unsaid_messages}
+use Rattle.telling.proofs.Brought.{marks_at, set_from, set_held, set_marks, set_told, told_at}
+use Rattle.telling.proofs.Brought.{told_of}
 use Rattle.hub.specs.History.{Beginning}
 use Rattle.hub.specs.Posts.{Follows}
 use Rattle.hub.specs.Views.{Seeing}
-use Rattle.telling.proofs.Brought.{marks_at, set_from, set_held, set_marks, set_told, told_at}
-use Rattle.telling.proofs.Brought.{told_of}
-use Rattle.worker_frame.proofs.Later.{follows_self, shows_last}
+use Rattle.hub.proofs.Showing.{later_on}
 use Rattle.worker_frame.specs.declared.poster.Poster.{Poster}
+use Rattle.worker_frame.proofs.Later.{follows_self, shows_last}
 use Rattle.peer_worker.specs.Knowing.{Pushing}
 use Rattle.peer_worker.specs.Tellings.{AreTellings, Equips, HoldsLast, IsBroughtTo, IsExact}
 use Rattle.peer_worker.specs.Tellings.{IsPushing, IsTelling, KeepsTold, LooksBack, SeesMore}
@@ -32,17 +43,6 @@ use Rattle.peer_worker.specs.declared.waiting.Signal.{Signal}
 use Rattle.peer_worker.specs.Turns.{PosterTells, Piece, Say, Send, Tell, Telling, Turn, asked_if}
 use Rattle.peer_worker.specs.Turns.{facts_in, pushed_in, seat_at, set_named, sets_in, taken_in}
 use Rattle.peer_worker.specs.Turns.{told_in, unsaid_in}
-use Rattle.session_core.specs.Asking.{asks_all}
-use Rattle.telling.specs.Among.{AllMarks, IsAmong, IsMarked}
-use Rattle.telling.specs.Pushes.{pushed_of}
-use Rattle.telling.specs.Rules.{is_told}
-use Rattle.telling.specs.Stands.{stands}
-use Rattle.telling.specs.Telling.{table_at, told_after, turn_at, turn_messages}
-use Rattle.telling.specs.Told.{Told}
-use Rattle.telling.specs.Unsaid.{unsaid_messages}
-use Rattle.telling.specs.declared.change.Turn.{Turn as Moment}
-use Rattle.telling.specs.declared.pushed.Pushed.{Pushed}
-use Rattle.telling.specs.declared.told.Mark.{Mark}
 
 -- the tellings of a poster of the same seat
 pub shown_at : (hub : Beginning) (seated : Bool) (old new : Option Poster) (turns : List Turn)

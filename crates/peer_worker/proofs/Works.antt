@@ -319,7 +319,7 @@ unsettled A hub seated old new start given after taken more piece batch end answ
       });
     }
 unsettled A hub seated old new start given after taken more piece batch end
-    (answers.Post fault) gives w stands seat settles =
+    (answers.Post fault) gives w stands seat (told, inl wrote) =
     let setup : Setup = setup_of hub.config in
     let count : length (talk setup seated (taken_in w.turns ++ piece)).facts - length
     (facts_in setup seated w.turns) ≡ length batch.facts =
@@ -332,26 +332,55 @@ unsettled A hub seated old new start given after taken more piece batch end
         took = subst (λ bytes. Appends start.taken more bytes)
             (append-nil (answers_in setup seated w.turns))
             (wrote_more start.taken taken more (answers_in setup seated w.turns) []
-            w.carried.took settles.1);
+            w.carried.took wrote);
       };
-      ends = record {
+      ends = inl (record {
         turns = w.turns;
         shown = shown_at hub seated old.poster new.poster w.turns seat w.work.shown;
         piece = piece;
         goes_on = w.work.goes_on;
         read = refl;
         told = subst (λ n. PosterTells hub new.poster (facts_in setup seated w.turns)
-            (stored_of fault n)) (sym count) settles.0;
+            (stored_of fault n)) (sym count) told;
         answered = refl;
-      };
+      });
     }
-unsettled A hub seated old new start given after taken more piece batch end answers.Signal gives
-    w stands seat settles =
+unsettled A hub seated old new start given after taken more piece batch end
+    (answers.Post fault) gives w stands seat (told, inr (is, cut)) =
     let setup : Setup = setup_of hub.config in
     let count : length (talk setup seated (taken_in w.turns ++ piece)).facts - length
     (facts_in setup seated w.turns) ≡ length batch.facts =
     less_old (facts_in setup seated w.turns) batch.facts
     (talk setup seated (taken_in w.turns ++ piece)).facts stands.grows.facts in record {
+      bytes = taken_in w.turns ++ piece;
+      written = answers_in setup seated w.turns ++ cut.front.front;
+      carried = record {
+        gave = wrote_more start.given given after (taken_in w.turns) piece w.carried.gave gives;
+        took = wrote_more start.taken taken more (answers_in setup seated w.turns)
+            cut.front.front w.carried.took cut.front.wrote;
+      };
+      ends = inr (
+        is,
+        record {
+          turns = w.turns;
+          shown = shown_at hub seated old.poster new.poster w.turns seat w.work.shown;
+          piece = piece;
+          front = cut.front.front;
+          rest = cut.front.rest;
+          goes_on = w.work.goes_on;
+          read = refl;
+          told = subst (λ n. PosterTells hub new.poster (facts_in setup seated w.turns) n) (sym count)
+              (subst (λ f. PosterTells hub new.poster (facts_in setup seated w.turns)
+              (stored_of f (length batch.facts))) is told);
+          signal = cut.signal;
+          cut = cut.front.split;
+          answered = refl;
+        },
+      );
+    }
+unsettled A hub seated old new start given after taken more piece batch end answers.Signal gives
+    w stands seat settles =
+    let setup : Setup = setup_of hub.config in record {
       bytes = taken_in w.turns ++ piece;
       written = answers_in setup seated w.turns ++ settles.1.front.front;
       carried = record {
@@ -367,7 +396,7 @@ unsettled A hub seated old new start given after taken more piece batch end answ
         rest = settles.1.front.rest;
         goes_on = w.work.goes_on;
         read = refl;
-        told = subst (λ n. PosterTells hub new.poster (facts_in setup seated w.turns) n) (sym count)
+        told = subst (λ facts. PosterTells hub new.poster facts 0) (sym stands.grows.facts)
             settles.0;
         signal = settles.1.signal;
         cut = settles.1.front.split;
@@ -491,16 +520,32 @@ ends_as setup seated S P Q bytes written Write f (inr is) = inr (record {
   rest = is.rest;
   goes_on = is.goes_on;
   read = is.read;
-  told = f (facts_in setup seated is.turns)
-      (length (talk setup seated bytes).facts - length (facts_in setup seated is.turns)) is.told;
+  told = f (facts_in setup seated (Piece is.piece ∷ is.turns)) 0 is.told;
   signal = is.signal;
   cut = is.cut;
   answered = is.answered;
 })
 ends_as setup seated S P Q bytes written (Session cause) f is =
     by_session_as setup seated S P Q bytes written cause f is
-ends_as setup seated S P Q bytes written (Post fault) f is =
-    refused_as setup seated S P Q bytes written (stored_of fault) f is
+ends_as setup seated S P Q bytes written (Post fault) f (inl is) =
+    inl (refused_as setup seated S P Q bytes written (stored_of fault) f is)
+ends_as setup seated S P Q bytes written (Post fault) f (inr (never, is)) = inr (
+  never,
+  record {
+    turns = is.turns;
+    shown = is.shown;
+    piece = is.piece;
+    front = is.front;
+    rest = is.rest;
+    goes_on = is.goes_on;
+    read = is.read;
+    told = f (facts_in setup seated is.turns)
+        (length (talk setup seated bytes).facts - length (facts_in setup seated is.turns)) is.told;
+    signal = is.signal;
+    cut = is.cut;
+    answered = is.answered;
+  },
+)
 ends_as setup seated S P Q bytes written Look f is = absurd is
 
 -- what a session's receipts show once its pass was given back
@@ -749,12 +794,15 @@ poster_of_stops hub seated S poster bytes written Write (inl ends) =
     poster_is_of hub poster (facts_in (setup_of hub.config) seated (ends.last ∷ ends.turns)) 0
     ends.told
 poster_of_stops hub seated S poster bytes written Write (inr ends) =
+    poster_is_of hub poster (facts_in (setup_of hub.config) seated (Piece ends.piece ∷ ends.turns))
+    0 ends.told
+poster_of_stops hub seated S poster bytes written (Session cause) ends =
+    poster_of_session hub seated S poster bytes written cause ends
+poster_of_stops hub seated S poster bytes written (Post fault) (inr (is, ends)) =
     poster_is_of hub poster (facts_in (setup_of hub.config) seated ends.turns)
     (length (talk (setup_of hub.config) seated bytes).facts - length
     (facts_in (setup_of hub.config) seated ends.turns)) ends.told
-poster_of_stops hub seated S poster bytes written (Session cause) ends =
-    poster_of_session hub seated S poster bytes written cause ends
-poster_of_stops hub seated S poster bytes written (Post fault) ends =
+poster_of_stops hub seated S poster bytes written (Post fault) (inl ends) =
     poster_is_of hub poster (facts_in (setup_of hub.config) seated ends.turns)
     (stored_of fault (length (talk (setup_of hub.config) seated bytes).facts - length
     (facts_in (setup_of hub.config) seated ends.turns))) ends.told

@@ -2,12 +2,12 @@
 use Rattle.std.specs.Prelude.{◌≡◌, ℕ, Bool, List, Some, map, slice_get}
 use Rattle.agg_types.specs.Naming.{place_of}
 use Rattle.fleet_model.specs.State.{State, state_of}
+use Rattle.set_changes.specs.declared.change.Change.{Change}
+use Rattle.pushed_keys.specs.declared.moved.Moved.{Moved}
+use Rattle.pushed_keys.specs.declared.pushed.Pushed.{Pushed}
 use Rattle.hub.specs.Changing.{SayBehind}
 use Rattle.hub.specs.History.{Beginning}
 use Rattle.hub.specs.Trailed.{trail_to}
-use Rattle.set_changes.specs.declared.change.Change.{Change}
-use Rattle.telling.specs.declared.moved.Moved.{Moved}
-use Rattle.telling.specs.declared.pushed.Pushed.{Pushed}
 
 -- the state behind all events of a list
 abbrev pub state_behind : Beginning → State

@@ -3,14 +3,14 @@ use Rattle.std.specs.Prelude.{◌≡◌, ◌++◌, ℕ, List, Option, None, Some
 use Rattle.std.specs.Prelude.{slice_get}
 use Rattle.agg_types.specs.declared.event.Event.{Event}
 use Rattle.fleet_model.specs.State.{state_of}
+use Rattle.pushed_keys.specs.Moves.{set_of}
+use Rattle.pushed_keys.specs.declared.pushed.Pushed.{Pushed}
+use Rattle.telling.specs.Telling.{AreOrdered, table_at}
+use Rattle.telling.specs.Told.{Told}
+use Rattle.telling.specs.Unsaid.{Unsaid}
 use Rattle.hub.specs.History.{Beginning}
 use Rattle.hub.specs.Views.{Seeing}
 use Rattle.peer_worker.specs.Turns.{set_named}
-use Rattle.telling.specs.Moves.{AreOrdered, set_of}
-use Rattle.telling.specs.Telling.{table_at}
-use Rattle.telling.specs.Told.{Told}
-use Rattle.telling.specs.Unsaid.{Unsaid}
-use Rattle.telling.specs.declared.pushed.Pushed.{Pushed}
 
 -- the pushed tables, what was told of them, the lens by which the session looks, and what is still
 -- to be written of what was told last

@@ -2,24 +2,24 @@
 use Rattle.std.specs.Prelude.{◌≡◌, ◌≢◌, ◌⊎◌, ℕ, ◌+◌, ◌<◌, Bool, true, false, ⊤, List, [], ◌∷◌, drop}
 use Rattle.std.specs.Prelude.{slice_get, take, Option, None, Some, MatchOption, IfSome, Result}
 use Rattle.agg_types.specs.declared.event.What.{What}
-use Rattle.session_core.specs.Piece.{setup_of}
-use Rattle.hub.specs.History.{Beginning}
-use Rattle.hub.specs.Posts.{Follows}
-use Rattle.hub.specs.Views.{IsBookOf, Seeing}
 use Rattle.fleet_model.specs.State.{State}
-use Rattle.worker_frame.specs.declared.writing.WriteFailed.{WriteFailed}
-use Rattle.worker_frame.specs.declared.poster.Poster.{Poster}
-use Rattle.peer_worker.specs.Knowing.{Pushing}
-use Rattle.worker_frame.specs.Told.{ShowsTold}
-use Rattle.peer_worker.specs.Turns.{Telling, Turn, Piece, Send, Tell, Say, asked_if, facts_in}
-use Rattle.peer_worker.specs.Turns.{pushed_in, set_named, sets_in, told_in, unsaid_in}
-use Rattle.worker_frame.specs.Writing.{Sends}
+use Rattle.session_core.specs.Piece.{setup_of}
+use Rattle.pushed_keys.specs.Pushes.{pushed_of}
+use Rattle.pushed_keys.specs.declared.pushed.Pushed.{Pushed}
 use Rattle.telling.specs.Among.{IsAmong}
-use Rattle.telling.specs.Pushes.{pushed_of}
 use Rattle.telling.specs.Telling.{text_of, told_after, told_keys, turn_messages}
 use Rattle.telling.specs.Told.{Told}
 use Rattle.telling.specs.Unsaid.{Unsaid, unsaid_messages}
-use Rattle.telling.specs.declared.pushed.Pushed.{Pushed}
+use Rattle.hub.specs.History.{Beginning}
+use Rattle.hub.specs.Posts.{Follows}
+use Rattle.hub.specs.Views.{IsBookOf, Seeing}
+use Rattle.worker_frame.specs.declared.writing.WriteFailed.{WriteFailed}
+use Rattle.worker_frame.specs.declared.poster.Poster.{Poster}
+use Rattle.worker_frame.specs.Told.{ShowsTold}
+use Rattle.worker_frame.specs.Writing.{Sends}
+use Rattle.peer_worker.specs.Knowing.{Pushing}
+use Rattle.peer_worker.specs.Turns.{Telling, Turn, Piece, Send, Tell, Say, asked_if, facts_in}
+use Rattle.peer_worker.specs.Turns.{pushed_in, set_named, sets_in, told_in, unsaid_in}
 
 -- the list that the newest of these turns' tellings is of, and the hub's before the first
 abbrev pub shown_by : Beginning → List Turn → Beginning

@@ -12,20 +12,21 @@ use Rattle.session_core.specs.declared.cause.SessionCause.TheVariants as causes
 use Rattle.session_core.specs.Cause.{cause_of}
 use Rattle.session_core.specs.Piece.{Setup}
 use Rattle.session_core.specs.Talk.{Talk, acks_among, talk}
+use Rattle.session_core.specs.Asking.{asks_all}
+use Rattle.pushed_keys.specs.Pushes.{pushed_of}
+use Rattle.pushed_keys.specs.declared.pushed.Pushed.{Pushed}
+use Rattle.telling.specs.Telling.{text_of, told_after, turn_messages, turn_text}
+use Rattle.telling.specs.Told.{Told as Memory, asked, untold}
+use Rattle.hub.specs.declared.faults.PostFault.TheVariants.{Pending}
 use Rattle.hub.specs.History.{Beginning}
 use Rattle.worker_frame.specs.declared.poster.Poster.{Poster}
 use Rattle.worker_frame.specs.declared.served.Cause.{Cause}
 use Rattle.worker_frame.specs.declared.served.Cause.TheVariants.{Read, Write, Session, Post, Look}
 use Rattle.worker_frame.specs.declared.served.Served.{Served}
-use Rattle.peer_worker.specs.declared.waiting.Signal.{Signal}
-use Rattle.peer_worker.specs.declared.waiting.Signal.TheVariants.{Heartbeat, Request}
 use Rattle.worker_frame.specs.Told.{HasTold, IsServed, stored_of}
 use Rattle.worker_frame.specs.Writing.{WroteFront}
-use Rattle.session_core.specs.Asking.{asks_all}
-use Rattle.telling.specs.Pushes.{pushed_of}
-use Rattle.telling.specs.Telling.{text_of, told_after, turn_messages, turn_text}
-use Rattle.telling.specs.Told.{Told as Memory, asked, untold}
-use Rattle.telling.specs.declared.pushed.Pushed.{Pushed}
+use Rattle.peer_worker.specs.declared.waiting.Signal.{Signal}
+use Rattle.peer_worker.specs.declared.waiting.Signal.TheVariants.{Heartbeat, Request}
 
 -- a telling: the list that it shows, and the book of that list
 pub record Telling : Type 0 where
@@ -169,9 +170,24 @@ pub record IsCutShort (setup : Setup) (seated : Bool) (Shown : List Turn → Typ
   pub answer : answer_at setup seated turns last ≡ front ++ rest
   pub answered : written ≡ answers_in setup seated turns ++ front
 
--- The same, but only a beginning of a signal was written, while a last piece waited: its facts
--- are stored and not shown yet.
+-- the same, but only a beginning of a signal was written while a last piece waited: its facts were
+-- told then, and nothing of it was answered
 pub record IsCutWaiting (setup : Setup) (seated : Bool) (Shown : List Turn → Type 0)
+    (Told : List What → ℕ → Type 0) (bytes written : List ℕ) : Type 0 where
+  pub turns : List Turn
+  pub shown : Shown turns
+  pub piece : List ℕ
+  pub front : List ℕ
+  pub rest : List ℕ
+  pub goes_on : TalkEnds setup seated (taken_in turns) None
+  pub read : bytes ≡ taken_in turns ++ piece
+  pub told : Told (facts_in setup seated (Piece piece ∷ turns)) 0
+  pub signal : Signal
+  pub cut : text_of_signal signal ≡ front ++ rest
+  pub answered : written ≡ answers_in setup seated turns ++ front
+
+-- the same, but the facts of the last piece are stored and weren't shown
+pub record IsCutPending (setup : Setup) (seated : Bool) (Shown : List Turn → Type 0)
     (Told : List What → ℕ → Type 0) (bytes written : List ℕ) : Type 0 where
   pub turns : List Turn
   pub shown : Shown turns
@@ -226,6 +242,7 @@ EndsBy setup seated Shown Told bytes written (Session cause) =
     EndsBySession setup seated Shown Told bytes written cause
 EndsBy setup seated Shown Told bytes written (Post fault) =
     IsRefused setup seated Shown Told bytes written (stored_of fault)
+    ⊎ ((fault ≡ Pending) × IsCutPending setup seated Shown Told bytes written)
 EndsBy setup seated Shown Told bytes written Look = ⊥
 
 -- the seat of a session that has one

@@ -1,5 +1,6 @@
 -- A session at work.
-use Rattle.std.specs.Prelude.{◌≡◌, ℕ, Bool, List, [], ◌++◌, length, Option, None, is_some, Result}
+use Rattle.std.specs.Prelude.{◌≡◌, ◌⊎◌, ℕ, Bool, List, [], ◌++◌, length, Option, None, is_some}
+use Rattle.std.specs.Prelude.{Result}
 use Rattle.std.specs.Prelude.{Ok, Err, IfOk}
 use Rattle.agg_types.specs.declared.event.What.{What}
 use Rattle.session_core.specs.declared.batch.SessionFault.{SessionFault}
@@ -8,6 +9,7 @@ use Rattle.session_core.specs.declared.cause.SessionCause.TheVariants as causes
 use Rattle.session_core.specs.Batched.{Batched}
 use Rattle.session_core.specs.Piece.{setup_of}
 use Rattle.session_core.specs.Talk.{stage_of}
+use Rattle.hub.specs.declared.faults.PostFault.TheVariants.{Pending}
 use Rattle.hub.specs.History.{Beginning}
 use Rattle.worker_frame.specs.declared.poster.Poster.{Poster}
 use Rattle.peer_worker.specs.declared.faults.AnswerFault.{AnswerFault}
@@ -85,7 +87,7 @@ Takes hub old new piece before after result =
     → GoesOn hub seated new start (so_far more after) result
 
 -- The facts of a batch are told, and then its bytes written; where they are refused, nothing is.
--- Where a signal couldn't be written meanwhile, they are stored and not shown yet.
+-- Where a signal couldn't be written meanwhile, its bytes aren't either.
 abbrev pub SettlesTo : {A : Type 0} → Beginning → Option Poster → List What → Batched
     → Option (List ℕ) → Option (List ℕ) → Result A AnswerFault → Type 0
 SettlesTo hub poster whats batch before after (Ok done) =
@@ -95,9 +97,10 @@ SettlesTo hub poster whats batch before after (Err Write) =
     PosterTells hub poster (whats ++ batch.facts) 0
     × WroteFront before after (batch.replies ++ batch.acks)
 SettlesTo hub poster whats batch before after (Err (Post fault)) =
-    PosterTells hub poster whats (stored_of fault (length batch.facts)) × Appends before after []
+    PosterTells hub poster whats (stored_of fault (length batch.facts))
+    × (Appends before after [] ⊎ ((fault ≡ Pending) × WroteSignal before after))
 SettlesTo hub poster whats batch before after (Err Signal) =
-    PosterTells hub poster whats (length batch.facts) × WroteSignal before after
+    PosterTells hub poster (whats ++ batch.facts) 0 × WroteSignal before after
 
 -- out of memory, nothing is posted nor written
 pub record EndsForMemory (old new : Option Poster) (before after : Option (List ℕ))

@@ -12,8 +12,8 @@ use std::io::Write;
 use std::sync::Wait;
 use worker_frame::{Clock, Context, Gate};
 
-// Makes a turn over the pushed tables where that is due: the peer's hello was accepted, and the
-// last turn is a while ago and has nothing more to say.
+// Makes a turn over the pushed tables where that is due, and tells the gate what is told then: the
+// peer's hello was accepted, and the last turn is a while ago and has nothing more to say.
 fn make_turn<J: Naming, H: Wait + Drop, R: Wait + std::rt::Clock, C: Clock, G: Gate>(
     context: &Context<'_, J, H, R, C, G>,
     worker: &mut Worker,
@@ -25,9 +25,11 @@ fn make_turn<J: Naming, H: Wait + Drop, R: Wait + std::rt::Clock, C: Clock, G: G
     ensures session { worker.new.session ≡ worker.old.session }
     ensures works { StaysAtWork context.now.hub.now worker.old worker.new }
 {
-    if worker.session.peer().is_none() {
+    let peer = worker.session.peer();
+    if peer.is_none() {
         return;
     }
+    let place = worker.place();
     let Some(pushing) = &mut worker.pushing else {
         return;
     };
@@ -36,6 +38,7 @@ fn make_turn<J: Naming, H: Wait + Drop, R: Wait + std::rt::Clock, C: Clock, G: G
     }
     pushing.equip(context.rt, context.hub);
     pushing.turn(context.alloc, &worker.poster, now);
+    pushing.report(context.gate, place, peer);
 }
 
 // Makes a turn where one is due, and writes the next pieces of what is unsaid. The others

@@ -4,16 +4,20 @@ ghost use Rattle.std.specs.Prelude.{◌≡◌};
 
 use hub::PostFault;
 use session_core::SessionCause;
+use thiserror::Error;
 use worker_frame::{Cause, WriteFailed};
 
 /// Why a batch wasn't posted, or its answer wasn't written whole.
-#[derive(Drop)]
+#[derive(Debug, Drop, Error)]
 pub enum AnswerFault {
     /// A write of the answer failed.
+    #[error("write failed")]
     Write,
     /// The post was refused.
+    #[error("{0}")]
     Post(PostFault),
-    /// A write of a signal failed, while the batch waited for its list to be shown.
+    /// A write of a signal failed while the batch waited. It was shown then.
+    #[error("write of a signal failed")]
     Signal,
 }
 
@@ -38,14 +42,17 @@ impl From<WriteFailed> for AnswerFault {
 }
 
 /// Why a session ends at a piece, or at a read that gave nothing.
-#[derive(Drop)]
+#[derive(Debug, Drop, Error)]
 pub enum TurnFault {
     /// A write failed.
+    #[error("write failed")]
     Write,
     /// A post was refused.
+    #[error("{0}")]
     Post(PostFault),
     /// The session's stream ended it, it was silent for too long, or an allocation of its own
     /// failed.
+    #[error("{0}")]
     Session(SessionCause),
 }
 

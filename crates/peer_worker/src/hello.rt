@@ -35,6 +35,14 @@ impl Hello {
         self.count += count;
     }
 
+    /// The name that its second line gives, by which it calls the collector. None where that line
+    /// hasn't ended.
+    pub fn called(&self) -> Option<&[u8]> {
+        let (_, behind) = split_line(&self.bytes[..self.count])?;
+        let (line, _) = split_line(behind)?;
+        Some(line)
+    }
+
     /// The name that its third line gives: what stands before the first space. None where that line
     /// hasn't ended.
     pub fn name(&self) -> Option<&[u8]> {

@@ -10,7 +10,8 @@
 //! telling is written in pieces of whole messages, and all of it before the next one is made.
 //!
 //! No clause says when a telling is made, when a piece of it is written, what its gate is told, nor
-//! what the answers to resync requests and the definitions of a stream are found to be (`Scout`).
+//! what the answers to resync requests, the definitions, the update ids and the learned rows' keys
+//! of a stream are found to be (`Scout`).
 #![tactic(auto)]
 
 mod asking;
@@ -24,6 +25,7 @@ mod pushing;
 mod running;
 mod scout;
 mod session;
+mod taught;
 mod waiting;
 mod worker;
 

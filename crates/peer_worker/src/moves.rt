@@ -7,8 +7,8 @@ ghost use Rattle.peer_worker.specs.Gathering.{AreMoves, AreSince, Each, IsMovedS
 use agg_types::NoMemory;
 use book::Book;
 use hub::{Change, Look};
+use pushed_keys::{Moved, Pushed};
 use std::alloc::Global;
-use telling::{Moved, Pushed};
 
 /// What moved in each pushed table behind the list of so many first events; none where that isn't
 /// known of one of them any more.

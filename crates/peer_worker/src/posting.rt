@@ -18,7 +18,8 @@ use std::io::Write;
 use std::sync::Wait;
 use worker_frame::{Clock, Context, Gate, send};
 
-// Posts facts, if there are any and the session has a seat, and waits until they are shown.
+// Posts facts, if there are any and the session has a seat, and waits until they are shown, also
+// where a signal couldn't be written meanwhile.
 fn post_facts<J: Naming, H: Wait + Drop, R: Wait + std::rt::Clock, C: Clock, G: Gate, W: Write>(
     context: &Context<'_, J, H, R, C, G>,
     worker: &mut Worker,
@@ -43,10 +44,13 @@ fn post_facts<J: Naming, H: Wait + Drop, R: Wait + std::rt::Clock, C: Clock, G: 
     }
     let count = facts.len() as u64;
     let ticket = poster.append(context.rt, context.hub, facts)?;
-    let receipt = await_shown(context, &mut worker.pulse, writer, ticket)?;
-    poster.take_up(receipt);
+    let awaited = await_shown(context, &mut worker.pulse, writer, ticket)?;
+    poster.take_up(awaited.receipt);
     worker.told = worker.told.saturating_add(count);
     worker.reuse();
+    if !awaited.is_heard {
+        return Err(AnswerFault::Signal);
+    }
     Ok(())
 }
 

@@ -13,12 +13,13 @@ use crate::moves::moves_since;
 use agg_types::{Config, Items, Key, NoMemory};
 use book::{Book, keys_named};
 use hub::{Hub, Lens, Look, Naming};
+use pushed_keys::{Moved, Pushed, pushed_of};
 use std::alloc::Global;
 use std::io::Write;
 use std::marker::Model;
 use std::sync::Wait;
-use telling::{Moved, PIECE, Pushed, Teller, Unsaid, pushed_of};
-use worker_frame::{Poster, WriteFailed, send};
+use telling::{PIECE, Teller, Unsaid};
+use worker_frame::{Gate, News, Place, Poster, WriteFailed, send};
 
 /// The least time between two turns of a session, in ms. With reads that last no longer each turn
 /// comes within twice that.
@@ -46,6 +47,8 @@ pub struct Pushing {
     unsaid: Unsaid,
     // the piece of it that is written; it has no room where nothing is unsaid
     piece: Vec<u8>,
+    // of each table, how many keys the gate was told that are told; none before it was
+    reported: Vec<Option<u64>>,
 }
 
 impl Model for Pushing {
@@ -84,6 +87,7 @@ impl Pushing {
             return Ok(None);
         }
         let pushed = pushed_of(alloc, config)?;
+        let reported = Vec::from_elem(alloc, None, pushed.len())?;
         let teller = Teller::new(alloc);
         Ok(Some(Pushing {
             pushed,
@@ -93,6 +97,7 @@ impl Pushing {
             told: None,
             unsaid: Unsaid::none(alloc),
             piece: Vec::new(alloc),
+            reported,
         }))
     }
 
@@ -147,6 +152,15 @@ impl Pushing {
         }
     }
 
+    /// Tells a gate how many keys of each table are told, where that isn't what it was told last.
+    pub fn report<G: Gate>(&mut self, gate: &G, place: Place, peer: Option<usize>)
+        ensures { self.new ≡ self.old }
+    {
+        if let Some(peer) = peer {
+            report_counts(&self.teller, &mut self.reported, gate, place, peer);
+        }
+    }
+
     /// Writes the next pieces of what is unsaid, and says how many bytes: none where nothing is
     /// unsaid, or an allocation failed. Behind the last piece their room is given back.
     pub fn write<W: Write>(&mut self, writer: &mut W) -> Result<usize, WriteFailed>
@@ -156,6 +170,25 @@ impl Pushing {
         let count = write_pieces(pushed, &mut self.unsaid, &mut self.piece, writer)?;
         give_back(&self.unsaid, &mut self.piece);
         Ok(count)
+    }
+}
+
+// Tells a gate how many keys of each table are told, where that isn't what it was told last.
+fn report_counts<G: Gate>(
+    teller: &Teller,
+    reported: &mut Vec<Option<u64>>,
+    gate: &G,
+    place: Place,
+    peer: usize,
+) {
+    for table in 0..reported.len() {
+        let keys = teller.count(table);
+        if let Some(last) = reported.get_mut(table)
+            && *last != Some(keys)
+        {
+            *last = Some(keys);
+            gate.tell(place, News::Told(peer, table, keys));
+        }
     }
 }
 

@@ -66,7 +66,7 @@ fn treat_piece<J: Naming, H: Wait + Drop, R: Wait + std::rt::Clock, C: Clock, G:
 {
     context.gate.turn(worker.place());
     let now = context.clock.now();
-    worker.listen(piece, now);
+    worker.listen(context.hub.config(), piece, now);
     take_piece(context, worker, writer, piece, now)?;
     worker.greet(context.gate);
     attend(context, worker, writer, now)

@@ -2,14 +2,18 @@
 //! answers resync requests.
 //!
 //! The session keeps of a stream what it follows. This goes over the heads of the same messages
-//! beside it, and reads definitions alone, so that an operator can be told why a table isn't
-//! followed. By the answers it is known when to ask again. No clause says what it finds.
+//! beside it, and reads definitions, and the ids of updates, so that an operator can be told why a
+//! table isn't followed, and whose rows its sender teaches. By the answers it is known when to ask
+//! again. No clause says what it finds.
 
 use crate::asking::Answer;
+use crate::taught::Lessons;
+use agg_types::Config;
 use agg_types::limits::LONGEST_PAYLOAD;
+use bytes::BytesMut;
 use peers_msg::kinds::{
-    CONTROL_CLASS, FIRST_WITH_PAYLOAD, RESYNC_FINISHED, RESYNC_PARTIAL, TABLE_CLASS,
-    TABLE_DEFINITION,
+    ACKNOWLEDGEMENT, CONTROL_CLASS, FIRST_WITH_PAYLOAD, RESYNC_FINISHED, RESYNC_PARTIAL,
+    TABLE_CLASS, TABLE_DEFINITION,
 };
 use peers_msg::{Definition, Feed, Message, get_int};
 use std::alloc::Global;
@@ -34,21 +38,31 @@ enum At {
     Head,
     /// In a payload that isn't read, before so many bytes of it.
     Skipped(u64),
-    /// In the payload of a definition, before so many bytes of it. What came of it is kept.
+    /// In the payload of a message of a table, before so many bytes of it. What came of it is kept.
     Kept(u64),
     /// Behind a fault: nothing is read any more.
     Over,
 }
 
-/// A stream, what wasn't taken yet of the answers to resync requests, and the definitions that
-/// weren't told yet.
+/// A stream, what wasn't taken yet of the answers to resync requests, the definitions that weren't
+/// told yet, and what it taught.
 #[derive(Drop)]
 pub struct Scout {
     at: At,
-    kept: Vec<u8>,
+    kept: BytesMut,
     answer: Option<Answer>,
     found: VecDeque<Definition>,
+    lessons: Lessons,
     alloc: Global,
+}
+
+/// A message that stands whole in front of others.
+#[derive(Clone, Copy)]
+struct Whole<'a> {
+    class: u8,
+    kind: u8,
+    payload: &'a [u8],
+    rest: &'a [u8],
 }
 
 // What stands behind so many bytes, or behind all.
@@ -71,27 +85,39 @@ fn answer_in(class: u8, kind: u8) -> Option<Answer> {
     }
 }
 
-// What stands behind the first message, where it is whole, no definition and no answer.
-fn behind_whole(bytes: &[u8]) -> Option<&[u8]> {
-    let [class, kind, rest @ ..] = bytes else {
+// The first message, where it is whole, no definition and no answer.
+fn whole_in(bytes: &[u8]) -> Option<Whole<'_>> {
+    let [class, kind, behind @ ..] = bytes else {
         return None;
     };
-    if answer_in(*class, *kind).is_some() {
+    let (class, kind) = (*class, *kind);
+    if answer_in(class, kind).is_some() || (class, kind) == DEFINITION {
         return None;
     }
-    if *kind < FIRST_WITH_PAYLOAD {
-        return Some(rest);
+    if kind < FIRST_WITH_PAYLOAD {
+        return Some(Whole {
+            class,
+            kind,
+            payload: b"",
+            rest: behind,
+        });
     }
-    if (*class, *kind) == DEFINITION {
+    let (len, taken) = get_int(behind).ok()??;
+    if len > LONGEST_PAYLOAD {
         return None;
     }
-    match get_int(rest) {
-        Ok(Some((len, taken))) if len <= LONGEST_PAYLOAD => {
-            let end = taken.saturating_add(usize::try_from(len).ok()?);
-            rest.get(end..)
-        }
-        _ => None,
-    }
+    let end = taken.saturating_add(usize::try_from(len).ok()?);
+    Some(Whole {
+        class,
+        kind,
+        payload: behind.get(taken..end)?,
+        rest: behind.get(end..)?,
+    })
+}
+
+// Whether a message is read: it says which table is in force, or is an update.
+fn is_read(class: u8, kind: u8) -> bool {
+    class == TABLE_CLASS && kind >= FIRST_WITH_PAYLOAD && kind != ACKNOWLEDGEMENT
 }
 
 impl Scout {
@@ -99,26 +125,27 @@ impl Scout {
     pub fn new(alloc: Global) -> Scout {
         Scout {
             at: At::Hello(HELLO_LINES),
-            kept: Vec::new(alloc),
+            kept: BytesMut::new(alloc),
             answer: None,
             found: VecDeque::new(alloc),
+            lessons: Lessons::new(alloc),
             alloc,
         }
     }
 
-    /// Reads the next piece.
-    pub fn read_piece(&mut self, piece: &[u8]) {
+    /// Reads the next piece of a peer of this configuration.
+    pub fn read_piece(&mut self, config: &Config, piece: &[u8]) {
         let mut rest = piece;
         for _ in 0..u64::MAX {
             if rest.is_empty() {
                 return;
             }
-            rest = self.step(rest);
+            rest = self.step(config, rest);
         }
     }
 
     // Takes what stands in front, and gives what is left.
-    fn step<'a>(&mut self, bytes: &'a [u8]) -> &'a [u8] {
+    fn step<'a>(&mut self, config: &Config, bytes: &'a [u8]) -> &'a [u8] {
         match self.at {
             At::Hello(lines) => self.end_line(lines, bytes),
             At::Head => self.read_head(bytes),
@@ -129,7 +156,7 @@ impl Scout {
                 };
                 behind(bytes, left)
             }
-            At::Kept(left) => self.keep(left, bytes),
+            At::Kept(left) => self.keep(config, left, bytes),
             At::Over => b"",
         }
     }
@@ -149,14 +176,17 @@ impl Scout {
     // A whole message, or the next byte of a head.
     fn read_head<'a>(&mut self, bytes: &'a [u8]) -> &'a [u8] {
         if self.kept.is_empty()
-            && let Some(rest) = behind_whole(bytes)
+            && let Some(whole) = whole_in(bytes)
         {
-            return rest;
+            if whole.class == TABLE_CLASS {
+                self.lessons.hear(whole.kind, whole.payload);
+            }
+            return whole.rest;
         }
         let Some((first, rest)) = bytes.split_first() else {
             return b"";
         };
-        self.at = match self.kept.push(*first) {
+        self.at = match self.kept.extend_from_slice(&[*first]) {
             Ok(()) => self.after_head(),
             Err(_) => At::Over,
         };
@@ -168,7 +198,7 @@ impl Scout {
         let [class, kind, number @ ..] = self.kept.as_slice() else {
             return At::Head;
         };
-        let is_definition = (*class, *kind) == DEFINITION;
+        let is_read = is_read(*class, *kind);
         let answer = answer_in(*class, *kind);
         let len = if *kind < FIRST_WITH_PAYLOAD {
             0
@@ -179,7 +209,7 @@ impl Scout {
                 _ => return At::Over,
             }
         };
-        if is_definition && len > 0 {
+        if is_read && len > 0 {
             return At::Kept(len);
         }
         self.kept.clear();
@@ -200,8 +230,8 @@ impl Scout {
         self.answer.take()
     }
 
-    // Keeps what came of a definition, and reads it once it is whole.
-    fn keep<'a>(&mut self, left: u64, bytes: &'a [u8]) -> &'a [u8] {
+    // Keeps what came of a message of a table, and reads it once it is whole.
+    fn keep<'a>(&mut self, config: &Config, left: u64, bytes: &'a [u8]) -> &'a [u8] {
         let rest = behind(bytes, left);
         let count = bytes.len() - rest.len().min(bytes.len());
         if self.kept.extend_from_slice(&bytes[..count]).is_err() {
@@ -210,7 +240,7 @@ impl Scout {
         }
         match left.saturating_sub(count as u64) {
             0 => {
-                self.read();
+                self.read(config);
                 self.at = At::Head;
             }
             more => self.at = At::Kept(more),
@@ -218,25 +248,49 @@ impl Scout {
         rest
     }
 
-    // Reads the definition that is kept. It is passed over where memory is lacking.
-    fn read(&mut self) {
-        let mut feed = Feed::new(self.alloc);
-        if let Ok(messages) = feed.feed(self.kept.as_slice())
-            && let Some(Message::Define(definition)) = messages.into_vec().pop()
-            && self.found.len() < MOST_FOUND
+    // Reads the message that is kept.
+    fn read(&mut self, config: &Config) {
+        if let [class, kind, number @ ..] = self.kept.as_slice()
+            && (*class, *kind) != DEFINITION
         {
-            let _ = self.found.push_back(definition);
+            if let Ok(Some((_, taken))) = get_int(number) {
+                self.lessons.hear(*kind, behind(number, taken as u64));
+            }
+        } else {
+            self.read_definition(config);
         }
         self.kept.clear();
     }
 
-    /// Tells a gate of the definitions that were found.
+    // Reads the definition that is kept. It is passed over where memory is lacking.
+    fn read_definition(&mut self, config: &Config) {
+        let mut feed = Feed::new(self.alloc);
+        let Ok(messages) = feed.feed(self.kept.as_slice()) else {
+            return;
+        };
+        let Some(Message::Define(definition)) = messages.into_vec().pop() else {
+            return;
+        };
+        self.lessons.define(config, &definition);
+        if self.found.len() < MOST_FOUND {
+            let _ = self.found.push_back(definition);
+        }
+    }
+
+    /// Tells a gate of the definitions that were found, and of what was taught.
     pub fn tell<G: Gate>(&mut self, gate: &G, place: Place, peer: usize) {
         for _ in 0..u64::MAX {
             let Some(definition) = self.found.pop_front() else {
-                return;
+                break;
             };
             gate.tell(place, News::Defined(peer, &definition));
         }
+        self.lessons.tell(gate, place, peer);
+        self.lessons.note_told();
+    }
+
+    /// Tells a gate of what was taught and wasn't told yet.
+    pub fn tell_taught<G: Gate>(&self, gate: &G, place: Place, peer: usize) {
+        self.lessons.tell(gate, place, peer);
     }
 }

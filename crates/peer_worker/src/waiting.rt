@@ -7,10 +7,9 @@ ghost use Rattle.std.specs.Prelude.{◌≡◌, MatchResult};
 ghost use Rattle.hub.specs.History.{Beginning};
 ghost use Rattle.worker_frame.specs.Writing.{Sends};
 ghost use Rattle.peer_worker.specs.Turns.{WroteSignal, text_of_signal};
-ghost use Rattle.peer_worker.specs.Waiting.{AwaitsTo, Signals, SignalsThen};
+ghost use Rattle.peer_worker.specs.Waiting.{AwaitsTo, Signals, SignalsIf, SignalsThen};
 
 use crate::asking::{Answer, Asking};
-use crate::faults::AnswerFault;
 use hub::{Await, Naming, PostFault, Receipt, Ticket};
 use peers_msg::kinds;
 use session_core::BEAT_AFTER;
@@ -111,9 +110,28 @@ impl Pulse {
         self.wrote(SIGNAL_LEN, now);
         Ok(())
     }
+
+    // The same: whether it could be written.
+    fn is_sent<W: Write>(&mut self, writer: &mut W, now: u64) -> bool
+        ensures { SignalsIf result (W.contents writer.old) (W.contents writer.new) }
+    {
+        match self.signal(writer, now) {
+            Ok(()) => true,
+            Err(WriteFailed) => false,
+        }
+    }
 }
 
-/// Waits until a ticket's list is shown, and sends the signals that are due meanwhile.
+/// A batch whose list is shown, and whether the signals that were due meanwhile could be written.
+#[derive(Drop)]
+pub struct Awaited {
+    pub receipt: Receipt,
+    pub is_heard: bool,
+}
+
+/// Waits until a ticket's list is shown, and sends the signals that are due meanwhile, until one
+/// can't be written.
+#[tactic(auto, using(crate::proofs::Pulses::heard_on))]
 pub fn await_shown<
     J: Naming,
     H: Wait + Drop,
@@ -126,23 +144,24 @@ pub fn await_shown<
     pulse: &mut Pulse,
     writer: &mut W,
     ticket: Ticket,
-) -> Result<Receipt, AnswerFault>
+) -> Result<Awaited, PostFault>
     requires { ticket.of ≡ context.now.hub.now.of }
     ensures { SignalsThen (W.contents writer.old)
         (AwaitsTo ticket (W.contents writer.new) result) }
 {
     let mut waited = ticket;
+    let mut is_heard = true;
     for _ in context.rt.forever() {
         match context
             .hub
             .wait(context.rt, waited, Duration::from_millis(WAIT_AT_A_TIME))
         {
-            Await::Shown(receipt) => return Ok(receipt),
-            Await::Pending => return Err(AnswerFault::Post(PostFault::Pending)),
+            Await::Shown(receipt) => return Ok(Awaited { receipt, is_heard }),
+            Await::Pending => return Err(PostFault::Pending),
             Await::NotYet(same) => waited = same,
         }
-        if pulse.signal(writer, context.clock.now()).is_err() {
-            return Err(AnswerFault::Signal);
+        if is_heard {
+            is_heard = pulse.is_sent(writer, context.clock.now());
         }
     }
     unreachable!()

@@ -10,7 +10,7 @@ use crate::hello::Hello;
 use crate::pushing::Pushing;
 use crate::scout::Scout;
 use crate::waiting::Pulse;
-use agg_types::Whats;
+use agg_types::{Config, Whats};
 use hub::Pass;
 use session_core::{Idle, Session, SessionCause};
 use std::alloc::Global;
@@ -110,9 +110,9 @@ impl Worker {
         }
     }
 
-    /// Keeps what it hears of a hello, finds the tables that are defined, and hears what its resync
-    /// requests are answered.
-    pub fn listen(&mut self, piece: &[u8], now: u64)
+    /// Keeps what it hears of a hello, finds the tables that are defined and what is taught of
+    /// them, and hears what its resync requests are answered.
+    pub fn listen(&mut self, config: &Config, piece: &[u8], now: u64)
         ensures session { self.new.session ≡ self.old.session }
         ensures poster { self.new.poster ≡ self.old.poster }
         ensures pushing { self.new.pushing ≡ self.old.pushing }
@@ -120,13 +120,14 @@ impl Worker {
         if self.peer.is_none() {
             self.hello.add(piece);
         }
-        self.scout.read_piece(piece);
+        self.scout.read_piece(config, piece);
         if let Some(answer) = self.scout.take_answer() {
             self.pulse.hear(answer, now);
         }
     }
 
-    /// Tells that a peer's hello was accepted, once, and what was posted and defined since it told.
+    /// Tells that a peer's hello was accepted, once, and what was posted, defined and taught since
+    /// it told.
     pub fn greet<G: Gate>(&mut self, gate: &G)
         ensures session { self.new.session ≡ self.old.session }
         ensures poster { self.new.poster ≡ self.old.poster }
@@ -168,16 +169,18 @@ impl Worker {
         }
         if let Some(peer) = peer {
             self.report(gate, peer);
+            self.scout.tell_taught(gate, self.place(), peer);
         }
-        let name = if peer.is_none() {
-            self.hello.name()
+        let (name, called) = if peer.is_none() {
+            (self.hello.name(), self.hello.called())
         } else {
-            None
+            (None, None)
         };
         let gone = Gone {
             sender,
             peer,
             name,
+            called,
             updates: updates_of(self.told),
             cause: ended.as_ref().err(),
         };

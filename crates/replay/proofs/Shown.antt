@@ -4,8 +4,8 @@ use Rattle.std.proofs.Common.{false, List, [], ◌∷◌, ◌++◌, length, drop
 use Rattle.std.proofs.Common.{get_or, add-one, drop-cons, Option, None, Some, refl, sym, ap, ◌∙◌}
 use Rattle.std.specs.Bool.{then_some}
 use Rattle.agg_types.specs.declared.config.Config.{Config}
+use Rattle.pushed_keys.specs.declared.pushed.Pushed.{Pushed}
 use Rattle.telling.specs.Telling.{Told as WasTold, told_keys}
-use Rattle.telling.specs.declared.pushed.Pushed.{Pushed}
 use Rattle.fleet_core.specs.Possible.{is_open_after}
 use Rattle.fleet_core.specs.Telling.{book_after, told_of}
 use Rattle.fleet_core.specs.declared.step.Step.{Step}

@@ -5,10 +5,10 @@ use Rattle.std.specs.List.{flat_map}
 use Rattle.agg_types.specs.declared.config.Config.{Config}
 use Rattle.agg_types.specs.declared.config.KeyKind.{KeyKind}
 use Rattle.fleet_model.specs.State.{State}
-use Rattle.key_text.specs.Printed.{key_text}
-use Rattle.telling.specs.Pushes.{pushed_of}
+use Rattle.pushed_keys.specs.Pushes.{pushed_of}
+use Rattle.pushed_keys.specs.declared.pushed.Pushed.{Pushed}
 use Rattle.telling.specs.Telling.{Told as WasTold, told_keys}
-use Rattle.telling.specs.declared.pushed.Pushed.{Pushed}
+use Rattle.key_text.specs.Printed.{key_text}
 use Rattle.fleet_core.specs.Possible.{is_open_after}
 use Rattle.fleet_core.specs.Telling.{book_after, told_of}
 use Rattle.fleet_core.specs.declared.step.Step.{Step}

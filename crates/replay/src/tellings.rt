@@ -12,8 +12,9 @@ ghost use Rattle.replay.specs.Tellings.{tables_from};
 use agg_types::{KeyKind, NoMemory};
 use fleet_core::{Fleet, Step};
 use key_text::{append_key, append_number, append_text};
+use pushed_keys::{Pushed, pushed_of};
 use std::alloc::Global;
-use telling::{Pushed, Teller, pushed_of};
+use telling::Teller;
 
 /// Appends what is printed behind a step that tells an open connection: the pushed tables, each
 /// with the keys that it was told.

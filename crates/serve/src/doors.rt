@@ -68,8 +68,8 @@ pub trait Doors<S: Source + Drop, W: Write + Drop> {
     /// A connection of a peer has its seat.
     fn seated(&self, _source: &S) {}
 
-    /// Whether the clock goes on for want of memory: behind a timer that ended since memory was
-    /// lacking another one is begun, after a rest and with a seat of its own, as long as a door is
+    /// Whether the clock goes on where memory was lacking: behind a timer that ended for that
+    /// reason another one is begun, after a rest and with a seat of its own, as long as a door is
     /// open. Where this isn't so, the first timer that ends is the last.
     fn keeps_clock(&self) -> bool {
         false

@@ -25,5 +25,5 @@ pub use peer_worker::{laws, serve_session};
 pub use timer::run_timer;
 pub use worker_frame::{
     Came, Cause, Clock, Context, Door, Faulted, Gate, Gone, Link, News, Place, ReadFailed, Served,
-    Source, Status,
+    Source, Status, Taught,
 };

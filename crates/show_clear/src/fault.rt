@@ -6,38 +6,49 @@ ghost use Rattle.show_clear.specs.Refusal.{fault_name, fault_number, refusal_tex
 use agg_types::NoMemory;
 use answer_text::{append_counted, append_labelled};
 use key_text::append_text;
-use std::error::Error;
-use std::fmt;
+use thiserror::Error;
 
-/// Why a line is no command: the first fault from the left. Its text is its name in a refusal, and
-/// its number there is its place in this list, from 1.
-#[derive(Clone, Copy, Debug, PartialEq, Eq)]
+/// Why a line is no command: the first fault from the left. A refusal has its name and its number,
+/// which is its place in this list, from 1.
+#[derive(Clone, Copy, Debug, PartialEq, Eq, Error)]
 pub enum CommandFault {
     /// The line has no word.
+    #[error("the line has no word")]
     Empty,
     /// A word is unknown, missing or one too many, or the line has more bytes than
     /// `LONGEST_COMMAND_LINE`.
+    #[error("a word is unknown, missing or one too many, or the line is too long")]
     Unknown,
     /// No table, standing filter or ranked list has this name.
+    #[error("no table, filter or ranked list has this name")]
     NoTable,
     /// No column has this name, or the table doesn't store it.
+    #[error("a word names no column that the table stores")]
     BadColumn,
     /// It isn't one of eq, ne, le, ge, lt and gt.
+    #[error("a word is none of eq, ne, le, ge, lt and gt")]
     BadOperator,
     /// It isn't 1 to 20 digits, or is above 2^64 - 1.
+    #[error("a word is no number up to 2^64 - 1")]
     BadValue,
     /// It is no key of the table's kind.
+    #[error("a word is no key of the table's kind")]
     BadKey,
     /// A condition more than `MOST_CONDS`.
+    #[error("there are too many conditions")]
     TooMany,
     /// An allocation failed.
+    #[error("out of memory")]
     NoMemory,
     /// It can't name a standing filter: it has more than `LONGEST_NAME` bytes, or one outside 33 to
     /// 126.
+    #[error("a word can't name a filter")]
     BadName,
     /// A standing filter has this name already.
+    #[error("a filter of this name exists already")]
     Exists,
     /// `MOST_FILTERS` standing filters are active.
+    #[error("no further filter may be added")]
     Full,
 }
 
@@ -77,14 +88,6 @@ impl CommandFault {
         }
     }
 }
-
-impl fmt::Display for CommandFault {
-    fn fmt<W: fmt::Write>(&self, f: &mut fmt::Formatter<W>) -> fmt::Result {
-        f.write_str(self.name())
-    }
-}
-
-impl Error for CommandFault {}
 
 /// Appends the text of a refusal: a line with the fault's number and name. After `NoMemory` the
 /// bytes of `out` are as they were.

@@ -8,9 +8,11 @@ use crate::CommandFault;
 use agg_types::NoMemory;
 use line_words::{Expected, Misread};
 use std::alloc::{AllocError, AllocFailed};
+use thiserror::Error;
 
 /// Why a line is no command: its first fault from the left, and the word that it is about.
-#[derive(Clone, Copy, Debug, PartialEq, Eq)]
+#[derive(Clone, Copy, Debug, PartialEq, Eq, Error)]
+#[error("{fault}")]
 pub struct Refused {
     pub fault: CommandFault,
     /// The word that is wrong or missing, and what had to stand there. A line that is too long has

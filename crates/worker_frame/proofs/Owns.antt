@@ -10,7 +10,9 @@ use Rattle.agg_types.specs.declared.event.What.{What}
 use Rattle.agg_types.specs.declared.event.What.TheVariants.{Sit, Leave}
 use Rattle.book.proofs.Updates.{length-numbered}
 use Rattle.fleet_model.specs.Seats.{numbered}
+use Rattle.hub.proofs.Posting.{batch_follows, learned_later}
 use Rattle.hub.proofs.Showing.{later_on}
+use Rattle.hub.specs.Views.{Learns}
 use Rattle.hub.specs.History.{Beginning, longer_by, own}
 use Rattle.hub.specs.declared.faults.PostFault.{PostFault}
 use Rattle.hub.specs.declared.faults.PostFault.TheVariants.{Replaced, NotNext, NoMemory, Pending}
@@ -126,11 +128,7 @@ poster_of pass last = record { pass = pass; last = last }
 pub shown_follows : (hub : Beginning) (p : Seated) (shown : Beginning) (batch : List What)
     → Follows hub p.seen → ShowsBatch p batch shown → Follows hub shown
 shown_follows hub p shown batch seen shows =
-    let made = numbered p.seat p.number batch in
-    let before = later_on hub p.seen shows.before seen shows.seen in
-    subst (λ (b : Beginning). Follows hub b) (sym shows.posted)
-    (later_on hub shows.before (longer_by shows.before made) before
-    (record { same = refl; events = (made, refl) }))
+    later_on hub p.seen shown seen (batch_follows p batch shown shows)
 
 -- the same of a leave, if it shows something
 pub left_follows : (hub : Beginning) (p : Seated) (shown : Option Beginning)
@@ -211,14 +209,17 @@ appended hub p q last whats batch ticket told after =
       told = refused hub p q last whats batch Pending told after.1;
       tells = subst (λ (r : Seated). Tells r.seat (whats ++ batch) ticket) (sym after.1) tells;
       shown = shown_follows hub p ticket batch told.seen after.0;
+      behind = subst (λ (r : Seated). Follows r.seen ticket) (sym after.1)
+          (batch_follows p batch ticket after.0);
     }
 
 -- a poster that took up the receipt for what it appended
 pub taken_up : (hub : Beginning) (p q : Seated) (last : Option Beginning) (whats batch : List What)
-    (receipt : Beginning) → q ≡ record p { seen = receipt }
+    (receipt : Beginning) → q ≡ record p { seen = q.seen } → Learns p.seen receipt q.seen
     → IsWaiting hub (poster_of p last) whats batch receipt
     → HasTold hub (poster_of q (Some receipt)) (whats ++ batch) 0
-taken_up hub p q last whats batch receipt same waits =
+taken_up hub p q last whats batch receipt same learns waits =
+    let seen : q.seen ≡ receipt = learned_later p.seen receipt q.seen waits.behind learns in
     let made_of : Poster = poster_of (record p { seen = receipt }) (Some receipt) in
     let number : p.number ≡ 1 + length (whats ++ batch) + 0 = let n = waits.told.number in
     omega (arith, length-append whats batch) in
@@ -229,5 +230,5 @@ taken_up hub p q last whats batch receipt same waits =
       last = waits.tells;
       shown = waits.shown;
     } in
-    subst (λ (r : Seated). HasTold hub (poster_of r (Some receipt)) (whats ++ batch) 0) (sym same)
-    done
+    subst (λ (r : Seated). HasTold hub (poster_of r (Some receipt)) (whats ++ batch) 0)
+    (sym (same ∙ ap (λ (b : Beginning). record p { seen = b }) seen)) done

@@ -52,13 +52,15 @@ TellsMore hub poster whats batch (Ok done) = HasTold hub poster (whats ++ batch)
 TellsMore hub poster whats batch (Err fault) = HasTold hub poster whats
     (stored_of fault (length batch))
 
--- a batch was appended behind what was told, and isn't shown yet; the ticket's list tells it
+-- a batch was appended behind what was told and seen, and isn't shown yet; the ticket's list tells
+-- it
 pub record IsWaiting (hub : Beginning) (poster : Poster) (whats batch : List What)
     (ticket : Beginning)
     : Type 0 where
   pub told : HasTold hub poster whats (length batch)
   pub tells : Tells poster.pass.seat (whats ++ batch) ticket
   pub shown : Follows hub ticket
+  pub behind : Follows poster.pass.seen ticket
 
 -- after an append the batch waits; after a refusal nothing was told
 abbrev pub AppendsMore : Beginning → Poster → List What → List What → Result Beginning PostFault

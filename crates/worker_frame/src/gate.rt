@@ -2,7 +2,7 @@
 
 use crate::served::Cause;
 use crate::status::Status;
-use agg_types::NoMemory;
+use agg_types::{Key, NoMemory};
 use book::Book;
 use peers_msg::Definition;
 use std::net::SocketAddr;
@@ -28,6 +28,18 @@ pub enum News<'a> {
     Posted(usize, u64),
     /// A peer's session defined a table, whether it is followed or not.
     Defined(usize, &'a Definition),
+    /// So many updates of a followed table came from a peer's session since that was told last. The
+    /// table goes by its place in the configuration, as the peer does.
+    Taught(usize, usize, Taught),
+    /// A peer's session taught rows of these keys of a followed table, which the peer had learned
+    /// from others. They are those of the first 1,000 such updates of the session and the table, or
+    /// of fewer where the keys have more than 64 KB, each update's told once. The table goes by its
+    /// place in the configuration, as the peer does.
+    Learned(usize, usize, &'a [Key]),
+    /// A peer was told so many keys of a pushed table that are told at its session's last turn. The
+    /// table goes by the place of its line among those that push. Told behind the session's first
+    /// turn, and whenever the number is another.
+    Told(usize, usize, u64),
     /// A command of an admin changed something, and that is shown: it is answered `ok` next. Who
     /// sent it, where that has an address, and its line without its end. The sender chose these
     /// bytes.
@@ -45,6 +57,15 @@ pub enum News<'a> {
     TurnedAway(Option<SocketAddr>),
 }
 
+/// How many updates of a table came.
+#[derive(Clone, Copy, Debug, PartialEq, Eq)]
+pub struct Taught {
+    /// Those with an id below 2^31: rows of the sender's own.
+    pub own: u64,
+    /// Those with an id from 2^31 on: rows that the sender learned from others.
+    pub learned: u64,
+}
+
 /// A connection of a session that is over.
 #[derive(Clone, Copy)]
 pub struct Gone<'a> {
@@ -55,6 +76,9 @@ pub struct Gone<'a> {
     /// The name that its hello gave, if it wasn't accepted and was read so far. The sender chose
     /// these bytes.
     pub name: Option<&'a [u8]>,
+    /// The name by which its hello called the collector, if it wasn't accepted and was read so far.
+    /// The sender chose these bytes.
+    pub called: Option<&'a [u8]>,
     /// How many updates it sent that were posted.
     pub updates: u64,
     /// Why it ended, where it didn't end by itself.

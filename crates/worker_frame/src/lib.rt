@@ -26,7 +26,7 @@ mod writing;
 pub use clock::Clock;
 pub use context::{Context, Link};
 pub use door::Door;
-pub use gate::{Gate, Gone, News, Place};
+pub use gate::{Gate, Gone, News, Place, Taught};
 pub use lines::split_line;
 pub use poster::Poster;
 pub use served::{Cause, Faulted, Served};

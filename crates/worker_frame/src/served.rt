@@ -2,9 +2,10 @@
 
 use hub::{PostFault, Receipt};
 use session_core::SessionCause;
+use thiserror::Error;
 
 /// What a worker posted.
-#[derive(Drop)]
+#[derive(Debug, Drop)]
 pub struct Served {
     /// What its last post at Ok shows.
     pub last: Option<Receipt>,
@@ -14,24 +15,30 @@ pub struct Served {
 }
 
 /// Why a worker ended.
-#[derive(Drop)]
+#[derive(Debug, Drop, Error)]
 pub enum Cause {
     /// A read failed, or 2^40 reads or turns were made.
+    #[error("read failed")]
     Read,
     /// A write failed.
+    #[error("write failed")]
     Write,
     /// The session's stream ended it, it was silent for too long, or an allocation of its own
     /// failed.
+    #[error("{0}")]
     Session(SessionCause),
     /// A post was refused, or an allocation of an admin's or a timer's own failed (no memory for no
     /// events).
+    #[error("{0}")]
     Post(PostFault),
     /// No copy of the book could be entered.
+    #[error("no copy to read")]
     Look,
 }
 
 /// A worker that ended with a fault.
-#[derive(Drop)]
+#[derive(Debug, Drop, Error)]
+#[error("{cause}")]
 pub struct Faulted {
     pub cause: Cause,
     pub served: Served,

@@ -6,6 +6,7 @@ ghost use Rattle.worker_frame.specs.Sources.{failures_in, read_of, IsWithin};
 
 use std::alloc::Global;
 use std::net::SocketAddr;
+use thiserror::Error;
 
 /// What a read answers.
 #[derive(Clone, Copy, Debug, PartialEq, Eq)]
@@ -19,7 +20,8 @@ pub enum Came {
 }
 
 /// A read that failed.
-#[derive(Clone, Copy, Debug, PartialEq, Eq)]
+#[derive(Clone, Copy, Debug, PartialEq, Eq, Error)]
+#[error("read failed")]
 pub struct ReadFailed;
 
 /// What a connection's bytes come from: a socket, or memory.

@@ -5,9 +5,11 @@ ghost use Rattle.std.specs.Io.KnownBytes.{Appends};
 ghost use Rattle.worker_frame.specs.Writing.{Sends};
 
 use std::io::{ErrorKind, Write};
+use thiserror::Error;
 
 /// A write that failed.
-#[derive(Clone, Copy, Debug, PartialEq, Eq)]
+#[derive(Clone, Copy, Debug, PartialEq, Eq, Error)]
+#[error("write failed")]
 pub struct WriteFailed;
 
 /// The first bytes.

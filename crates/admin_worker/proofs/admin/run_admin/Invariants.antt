@@ -16,7 +16,7 @@ pub record Runs (door : Door) (hub : Beginning) (old worker : AdminWorker) (star
 
 abbrev pub invariant-loop-made : goal.invariant-loop-made
 invariant-loop-made g l =
-    Runs l.door l.context.hub.now l.fn.worker l.worker
+    Runs l.fn.worker.manner.door l.context.hub.now l.fn.worker l.worker
     (so_far (g.S.Source.given l.fn.link.source) (g.W.Write.contents l.fn.link.writer))
     (so_far (g.S.Source.given l.link.source) (g.W.Write.contents l.link.writer))
     (g.S.Source.reads l.link.source) l.made

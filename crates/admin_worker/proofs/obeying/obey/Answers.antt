@@ -9,23 +9,23 @@ reply-requires-clause-fits g c =
 
 pub returns-in-Ok-Some-clause-obeys : goal.returns-in-Ok-Some-clause-obeys
 returns-in-Ok-Some-clause-obeys g c =
-    λ since seat whats line learned kept whole stays.
+    λ since seat whats line learned kept stays.
     let looks = rw c.in-Ok-Some.field-0-is at c.in-Ok-Some.ensures.looks in
-    c.reply.ensures.obeys c.args.door since seat whats line
-    (looks c.args.context.now.hub.now since seat whats line learned kept whole stays)
+    c.reply.ensures.obeys c.args.worker.now.manner since seat whats line
+    (looks c.args.context.now.hub.now since seat whats line learned kept stays)
 
 pub returns-in-Ok-None-clause-obeys : goal.returns-in-Ok-None-clause-obeys
 returns-in-Ok-None-clause-obeys g c =
-    λ since seat whats line learned kept whole stays.
+    λ since seat whats line learned kept stays.
     let looks = rw c.in-Ok-None.field-0-is at c.in-Ok-None.ensures.looks in (
-      looks c.args.context.now.hub.now since seat whats line learned kept whole stays,
+      looks c.args.context.now.hub.now since seat whats line learned kept stays,
       wrote_none (g.W.Write.contents c.args.writer.now),
     )
 
 pub returns-in-Err-clause-obeys : goal.returns-in-Err-clause-obeys
 returns-in-Err-clause-obeys g c =
-    λ since seat whats line learned kept whole stays.
+    λ since seat whats line learned kept stays.
     let hub = c.args.context.now.hub.now in
     obeys_unlooked hub c.look.new.self.poster whats (g.W.Write.contents c.args.writer.now)
     c.refused.result c.refused.ensures
-    (c.in-Err.ensures.looks hub since seat whats line learned kept whole stays)
+    (c.in-Err.ensures.looks hub since seat whats line learned kept stays)

@@ -6,7 +6,7 @@ use Rattle.admin_worker.proofs.obeying.reply.Goals as goal
 
 pub returns-in_err-carry_out-clause-obeys : goal.returns-in_err-carry_out-clause-obeys
 returns-in_err-carry_out-clause-obeys g c =
-    λ door since seat whats line looked.
+    λ manner since seat whats line looked.
     let p = err_from_is_err_and c.from_residual.result c.from_residual.ensures.1 in
     rw (p.1, p.2) (
       c.in_err-carry_out.ensures.changes c.args.worker.now.lens.seen seat whats looked.learned,
@@ -15,7 +15,7 @@ returns-in_err-carry_out-clause-obeys g c =
 
 pub returns-in_err-send-clause-obeys : goal.returns-in_err-send-clause-obeys
 returns-in_err-send-clause-obeys g c =
-    λ door since seat whats line looked.
+    λ manner since seat whats line looked.
     let p = err_from_is_err_and c.from_residual-in_err-send.result
     c.from_residual-in_err-send.ensures.1 in
     rw (p.1, p.2) (
@@ -28,7 +28,7 @@ returns-in_err-send-clause-obeys g c =
 
 pub returns-clause-obeys : goal.returns-clause-obeys
 returns-clause-obeys g c =
-    λ door since seat whats line looked. (
+    λ manner since seat whats line looked. (
       reply_of line c.args.answered.change c.args.answered.text.items c.args.worker.now.lens.seen,
       has_obeyed c.args.context.now.hub.now since seat c.carry_out.new.worker whats line
           c.args.answered.change c.args.answered.text.items c.args.worker.now.lens.seen looked.is

@@ -1,9 +1,9 @@
 use Rattle.std.proofs.Common.{◌≡◌, ◌+◌, ◌++◌, ◌∷◌, [], IfSome, List, ap, length, map, subst, sym}
 use Rattle.std.proofs.Common.{take, ◌∙◌, arith, length-append}
 use Rattle.std.proofs.lemmas.List.{length-map, length-take-le, map-append, take_all, take_more}
+use Rattle.pushed_keys.specs.declared.pushed.Pushed.{Pushed}
 use Rattle.peer_worker.specs.Gathering.{Each, IsMovedSince}
 use Rattle.peer_worker.proofs.Moving.{each_more}
-use Rattle.telling.specs.declared.pushed.Pushed.{Pushed}
 use Rattle.peer_worker.proofs.moves.moves_since.Goals as goal
 
 pub loop-table-preserved : goal.loop-table-preserved

@@ -1,7 +1,7 @@
 use Rattle.std.proofs.Common.{◌≡◌, ◌∙◌, ap, sym, append-nil, List, ℕ, ◌++◌}
 use Rattle.std.proofs.lemmas.Result.{on_ok_weaker}
 use Rattle.fleet_model.specs.State.{State}
-use Rattle.telling.specs.Pushes.{pushed_of}
+use Rattle.pushed_keys.specs.Pushes.{pushed_of}
 use Rattle.fleet_core.proofs.Opening.{all_taken}
 use Rattle.replay.specs.Tellings.{tables_from, tables_text}
 use Rattle.replay.proofs.Shown.{none_shown, some_shown}

@@ -16,13 +16,13 @@ returns-clause-fits g c =
 
 pub returns-clause-looks : goal.returns-clause-looks
 returns-clause-looks g c =
-    λ hub since seat whats line learned kept whole stays.
+    λ hub since seat whats line learned kept stays.
     let answered = c.in_ok-answered.answered in
-    let says : Replies c.args.door c.book.result.now
+    let says : Replies c.args.self.now.manner c.book.result.now
     (kept_of line) answered.change answered.text.items =
-    subst (λ (bytes : List ℕ). Replies c.args.door c.book.result.now bytes answered.change
+    subst (λ (bytes : List ℕ). Replies c.args.self.now.manner c.book.result.now bytes answered.change
     answered.text.items)
     (c.as_slice.ensures ∙ kept) c.in_ok-answered.ensures.replies in
     looked hub since seat c.args.self.now _ whats line c.book.result.now answered
     c.in-Some.look.lens.now.seen refl (search rules) c.in-Some.ensures.some.2 c.book.ensures
-    says whole stays learned
+    says stays learned

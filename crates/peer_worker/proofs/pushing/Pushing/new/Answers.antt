@@ -1,6 +1,6 @@
 use Rattle.std.proofs.Common.{subst, sym}
 use Rattle.telling.proofs.InOrder.{none_ordered}
-use Rattle.telling.specs.Moves.{AreOrdered}
+use Rattle.telling.specs.Telling.{AreOrdered}
 use Rattle.telling.specs.Told.{Told}
 use Rattle.peer_worker.proofs.pushing.Pushing.new.Goals as goal
 

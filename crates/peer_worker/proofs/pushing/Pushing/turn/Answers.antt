@@ -1,10 +1,10 @@
 use Rattle.std.proofs.Common.{◌≡◌, ◌∙◌, List, MatchOption, Option}
 use Rattle.std.proofs.Common.{Some, inr, refl, subst, sym}
+use Rattle.pushed_keys.specs.declared.pushed.Pushed.{Pushed}
+use Rattle.telling.specs.Telling.{AreOrdered}
 use Rattle.hub.specs.Views.{Seeing}
 use Rattle.peer_worker.specs.Knowing.{Knows, Pushing}
 use Rattle.peer_worker.specs.Tellings.{Brings, TurnsTo}
-use Rattle.telling.specs.Moves.{AreOrdered}
-use Rattle.telling.specs.declared.pushed.Pushed.{Pushed}
 use Rattle.peer_worker.proofs.Moving.{knows_on, turns_over}
 use Rattle.peer_worker.proofs.pushing.Pushing.turn.Goals as goal
 
