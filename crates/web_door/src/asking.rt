@@ -7,35 +7,28 @@ use book::Book;
 use key_text::read_key;
 use show_clear::{Command, CommandFault, Question as Asked, parse};
 use std::alloc::Global;
+use thiserror::Error;
 use web_lists::{filter_list, index, one_key, rank_list, row_list, table_list};
 use web_target::{Part, Question};
 use web_text::{AskFault, Entries};
 
 /// Why a list isn't told.
-#[derive(Debug, Drop)]
+#[derive(Debug, Drop, Error)]
 pub enum ListFault {
     /// There is no table, filter or ranked list of this name.
+    #[error("not found")]
     NoSuch,
-    /// What is asked for behind is no key of the table, or no peer.
-    BadKey,
     /// The conditions say nothing, or what stands for a key is none.
+    #[error("{0}")]
     BadWhere(CommandFault),
-    /// An allocation failed.
-    NoMemory,
+    /// It can't be told as it is asked for, or an allocation failed.
+    #[error("{0}")]
+    Ask(#[from] AskFault),
 }
 
 impl From<NoMemory> for ListFault {
-    fn from(_: NoMemory) -> ListFault {
-        ListFault::NoMemory
-    }
-}
-
-impl From<AskFault> for ListFault {
-    fn from(fault: AskFault) -> ListFault {
-        match fault {
-            AskFault::BadKey => ListFault::BadKey,
-            AskFault::NoMemory => ListFault::NoMemory,
-        }
+    fn from(refused: NoMemory) -> ListFault {
+        ListFault::Ask(AskFault::from(refused))
     }
 }
 
@@ -149,7 +142,7 @@ fn selection(alloc: Global, book: &Book, name: &[u8], words: &[u8]) -> Result<Se
     match parse(alloc, book, line.as_slice()) {
         Ok(Command::Ask(Asked::Table { sel, .. })) => Ok(sel),
         Ok(_) => Err(ListFault::BadWhere(CommandFault::Unknown)),
-        Err(CommandFault::NoMemory) => Err(ListFault::NoMemory),
+        Err(CommandFault::NoMemory) => Err(ListFault::from(NoMemory)),
         Err(fault) => Err(ListFault::BadWhere(fault)),
     }
 }

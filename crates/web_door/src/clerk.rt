@@ -19,28 +19,31 @@ use std::alloc::{AllocError, Global};
 use std::marker::PhantomData;
 use std::sync::{Arc, Wait};
 use std::time::Clock;
+use thiserror::Error;
 use web_lists::summed_up;
 use web_page::PAGE;
 use web_target::{Question, TargetFault, read};
-use web_text::{Standing, Summary, figures, overview, peer_list};
+use web_text::{AskFault, Standing, Summary, figures, overview, peer_list};
 
 /// Why there is no answer of a book.
-#[derive(Drop)]
+#[derive(Debug, Drop, Error)]
 enum Refusal {
     /// Too many looks are made, or no copy of the book could be entered.
+    #[error("too busy")]
     Busy,
-    List(ListFault),
+    #[error("{0}")]
+    List(#[from] ListFault),
 }
 
 impl From<NoMemory> for Refusal {
-    fn from(_: NoMemory) -> Refusal {
-        Refusal::List(ListFault::NoMemory)
+    fn from(refused: NoMemory) -> Refusal {
+        Refusal::List(ListFault::from(refused))
     }
 }
 
 impl From<AllocError> for Refusal {
-    fn from(_: AllocError) -> Refusal {
-        Refusal::List(ListFault::NoMemory)
+    fn from(refused: AllocError) -> Refusal {
+        Refusal::from(NoMemory::from(refused))
     }
 }
 
@@ -132,11 +135,11 @@ fn refused(alloc: Global, refusal: Refusal) -> Reply {
     match refusal {
         Refusal::Busy => Reply::busy(),
         Refusal::List(ListFault::NoSuch) => Reply::plain(StatusCode::NOT_FOUND, "not found\n"),
-        Refusal::List(ListFault::BadKey) => {
+        Refusal::List(ListFault::Ask(AskFault::BadKey)) => {
             Reply::plain(StatusCode::BAD_REQUEST, "after is a key of the list\n")
         }
         Refusal::List(ListFault::BadWhere(fault)) => bad_where(alloc, fault),
-        Refusal::List(ListFault::NoMemory) => Reply::no_memory(),
+        Refusal::List(ListFault::Ask(AskFault::NoMemory)) => Reply::no_memory(),
     }
 }
 
@@ -180,10 +183,7 @@ impl<'a, J: Naming, R: Wait, C: Clock, F: Facts> Clerk<'a, J, R, C, F> {
         let Some(look) = self.lens.look() else {
             return Err(Refusal::Busy);
         };
-        match told_of(self.alloc, &look, question) {
-            Ok(text) => Ok(text),
-            Err(fault) => Err(Refusal::List(fault)),
-        }
+        Ok(told_of(self.alloc, &look, question)?)
     }
 
     // What a look shows of the whole book, to be shared.
@@ -212,7 +212,7 @@ impl<'a, J: Naming, R: Wait, C: Clock, F: Facts> Clerk<'a, J, R, C, F> {
         let looked = self.facts.now();
         let summary = summed_up(self.alloc, look.book(), receipt.len(), looked)?;
         let Ok(summary) = Arc::new(self.alloc, summary) else {
-            return Err(Refusal::List(ListFault::NoMemory));
+            return Err(Refusal::from(NoMemory));
         };
         let at = micros(self.clock);
         Ok(Shared {
@@ -265,10 +265,8 @@ impl<'a, J: Naming, R: Wait, C: Clock, F: Facts> Clerk<'a, J, R, C, F> {
             Question::Metrics => Ok(figures(self.alloc, self.config, summary, standing)?),
             Question::Peers(part) => {
                 let entries = entries_of(part);
-                match peer_list(self.alloc, self.config, summary, standing, entries) {
-                    Ok(text) => Ok(text),
-                    Err(fault) => Err(Refusal::List(ListFault::from(fault))),
-                }
+                let list = peer_list(self.alloc, self.config, summary, standing, entries);
+                Ok(list.map_err(ListFault::Ask)?)
             }
             _ => Ok(overview(self.alloc, self.config, summary, standing)?),
         }

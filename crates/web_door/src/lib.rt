@@ -2,9 +2,9 @@
 //!
 //! `listening` serves each connection of its HTTP door by a `Clerk`, a service of the kit's
 //! `http_server`. It only reads: a clerk has a lens and no seat, so nothing that a request says can
-//! post. `Looks` bounds what all clerks do: four answers are made at once, looks take a tenth of the
-//! time (`Budget`), and the figures and the page share a look for ten times as long as it took, a
-//! second at least. While clerks have no time, a `Porter` tells whether the collector works, and
+//! post. `Looks` bounds what all clerks do: four answers are made at once, looks take a tenth of
+//! the time (`Budget`), and the figures and the page share a look for ten times as long as it took,
+//! a second at least. While clerks have no time, a `Porter` tells whether the collector works, and
 //! whoever asks for something else that the door is busy. Both answer 421 to a request for a host
 //! that isn't the collector's (`web_target::admits_host`).
 //!

@@ -8,6 +8,8 @@ macro_rules! asking {
 // of all keys of a filter.
 const EVERY = 2000, HIDDEN = 30000, SILENT = 8000, PAUSE = 150, FIGURES = 10000, LISTS = 30000;
 const KEPT = 600000, MINUTE = 60000;
+// A table of so many keys is soon walked, so filters' keys are asked for with their rows.
+const SOON = 20000;
 
 // What was told last, and when; since when nothing is told; what is kept of each proxy.
 const seen = { told: null, at: 0, began: 0, fault: "", past: new Map(), busy: 0 };
@@ -127,28 +129,53 @@ async function askFigures() {
   readFigures(text);
 }
 
+// Which value of a filter's keys says how bad they are: of its first column with a lower bound.
+function measureOf({ conditions }) {
+  const lower = conditions.find(({ operator }) => operator === "gt" || operator === "ge");
+  return (lower || conditions[0]).column;
+}
+
+// The conditions as `show table` reads them; nothing where a number of them can't be written.
+function whereOf({ conditions }) {
+  if (!conditions.every(({ value }) => Number.isSafeInteger(value))) return "";
+  return conditions.map(({ column, operator, value }) =>
+    "data." + column + " " + operator + " " + value).join(" ");
+}
+
+function isWalked(told, { table, conditions }) {
+  const facts = told.tables.find((one) => one.table === table);
+  return facts && facts.keys <= SOON && whereOf({ conditions }) !== "";
+}
+
 // A filter's keys, and whether there are more: a collector tells 10,000 at most, the first by key.
-// What was asked for is kept so long.
+// Of a table that is soon walked their rows come with them. What was asked for is kept so long.
 const lists = new Map();
-async function keysOf({ filter, keys, first }, wait) {
-  if (first.length === keys) return { keys: first, more: false };
+async function keysOf(told, found, wait) {
+  const { filter, table, keys, first } = found, isWhole = first.length === keys;
+  const withRows = isWalked(told, found);
+  if (isWhole && !withRows) return { keys: first, more: false };
   const old = lists.get(filter);
   if (old && Date.now() - old.at < wait) return old;
-  const list = await look(listPath("filters", filter, { limit: 10000 }));
-  lists.set(filter, { at: Date.now(), keys: list.entries, more: list.more });
+  const path = withRows ? listPath("tables", table, { where: whereOf(found), limit: 1000 })
+    : listPath("filters", filter, { limit: 10000 });
+  const { entries, more } = await look(path), at = Date.now();
+  const rows = withRows && new Map(entries.map((row) => [row.key, { ...row, at }]));
+  lists.set(filter, { at, rows, more, keys: withRows ? [...rows.keys()] : entries });
   return lists.get(filter);
 }
 
-// Where a filter holds more keys than were told, all are asked for now and then: of one filter a
-// turn, the one that waited longest, and only where a ranked list can tell the worst of them.
+// What else is known of filters' keys is asked for now and then: of one filter a turn, the one that
+// waited longest. It is their rows, or else all keys, where a ranked list can tell the worst.
 let isListing = false;
 async function askKeys(told) {
   const at = ({ filter }) => lists.has(filter) ? lists.get(filter).at : 0;
   const isRanked = ({ table }) => told.ranks.some((rank) => rank.table === table);
-  const big = told.filters.filter((one) => one.keys > one.first.length && isRanked(one));
-  if (isListing || document.hidden || !big.length) return;
+  const wanted = told.filters.filter((one) => one.keys > 0
+    && (isWalked(told, one) || (one.keys > one.first.length && isRanked(one))));
+  if (isListing || document.hidden || !wanted.length) return;
   isListing = true;
-  await keysOf(big.reduce((a, b) => at(b) < at(a) ? b : a), LISTS).catch(() => {});
+  const one = wanted.reduce((a, b) => at(b) < at(a) ? b : a);
+  await keysOf(told, one, isWalked(told, one) ? FIGURES : LISTS).catch(() => {});
   isListing = false;
 }
 

@@ -44,7 +44,7 @@ class KeyPanel {
     Object.assign(this, { key, only: table, every: EVERY, found: new Map(), whole: 0 });
     this.title = "Key " + key + (table === undefined ? "" : " of table " + table);
     this.about = make("p", box);
-    this.list = make("div", box, "cards");
+    this.list = make("div", box, "list");
     if (table !== undefined) {
       make("a", make("p", box), "", "in every table").setAttribute("href", place({ key }));
     }
@@ -94,9 +94,7 @@ class KeyPanel {
     if (!node.facts) {
       node.facts = make("dl", node, "facts");
       node.insertBefore(node.facts, node.list);
-      const box = make("div", node, "scroll");
-      node.insertBefore(box, node.list);
-      node.grid = peerGrid(box, table, Object.keys(row.values));
+      node.grid = peerGrid(make("div", node, "scroll"), table, Object.keys(row.values));
     }
     const pairs = Object.entries(row.values).flatMap(([name, value]) =>
       [["dt", name, name], ["dd", name, count(value)]]);

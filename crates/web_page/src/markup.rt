@@ -15,9 +15,11 @@ macro_rules! markup {
     <label for="find_key">Find a key</label>
     <input id="find_key" type="search" autocomplete="off" autocapitalize="off" spellcheck="false"
       placeholder="as 10.0.0.66">
-    <label for="find_table">in</label>
-    <select id="find_table"></select>
-    <button>Find</button>
+    <span class="pair">
+      <label for="find_table">in</label>
+      <select id="find_table" aria-label="in which table"></select>
+      <button>Find</button>
+    </span>
   </form>
 </header>
 <main id="content">
@@ -55,7 +57,8 @@ macro_rules! markup {
   <div class="row" id="proxies_more" hidden>
     <button type="button" id="all" aria-expanded="false">Show all</button>
     <label for="proxies_named" class="dim">whose name has</label>
-    <input id="proxies_named" type="search" autocomplete="off" spellcheck="false">
+    <input id="proxies_named" type="search" autocomplete="off" spellcheck="false"
+      aria-label="proxies whose name has">
   </div>
 </section>
 <section aria-labelledby="filters_title">

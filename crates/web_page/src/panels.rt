@@ -38,10 +38,16 @@ class ProxyPanel {
       return;
     }
     const from = peer.from ? ", from " + peer.from : "";
-    const passed = peer.unknown_tables
-      ? ", " + many(peer.unknown_tables, "table", "tables") + " passed over" : "";
-    say(this.about, stateOf(peer) + from + "; " + many(peer.updates, "update", "updates")
-      + ", the last one " + lastOf(peer) + passed + ".");
+    const parts = [stateOf(peer) + from, many(peer.updates, "update", "updates")
+      + ", the last one " + lastOf(peer)];
+    if (peer.learned) parts.push(count(peer.learned) + " of them it learned from other proxies, or "
+      + "from itself before a reload");
+    if (peer.unknown_tables) parts.push(many(peer.unknown_tables, "table", "tables")
+      + " passed over: show peers " + peer.name + " says why");
+    for (const { table, reason } of peer.not_sent) parts.push("of table " + table + " " + reason);
+    if (told.filters.some((one) => one.pushed)) parts.push("it is told "
+      + many(peer.told, "key", "keys") + " of pushed filters");
+    say(this.about, parts.join("; ") + ".");
     this.chart.show(ratesOf(this.name), seen.at);
     this.grid.show(told.tables.map(({ table }) => {
       const { rows, dropped } = holders(table).find((one) => one.peer === this.name)
@@ -187,7 +193,8 @@ class RankPanel {
   }
 }
 
-// A filter's keys, the worst first. Their rows are asked for one at a time, a few in a turn.
+// A filter's keys, the worst first. Of a large table their rows are asked for one at a time, a few
+// in a turn.
 class FilterPanel {
   constructor(box, { filter }) {
     Object.assign(this, { filter, every: EVERY, keys: [], rows: new Map(), ranked: 0 });
@@ -203,9 +210,15 @@ class FilterPanel {
     const found = told.filters.find((one) => one.filter === this.filter);
     if (!found) return;
     this.table = found.table;
-    this.keys = (await keysOf(found, FIGURES)).keys;
-    if (found.keys === found.first.length) this.worth = worthOf(told, this.table, this.keys);
-    else if (Date.now() - this.ranked > FIGURES) await this.askRank(told);
+    const { keys, rows } = await keysOf(told, found, 2 * EVERY);
+    this.keys = keys;
+    this.isWalked = Boolean(rows);
+    if (rows || found.keys === found.first.length) this.worth = worthOf(told, found, keys);
+    else if (Date.now() - this.ranked > FIGURES) await this.askRank(told, found);
+    if (rows) {
+      this.rows = rows;
+      return;
+    }
     const ago = (key) => this.rows.has(key) ? this.rows.get(key).at : 0;
     for (const key of this.first().sort((a, b) => ago(a) - ago(b)).slice(0, TURN)) {
       if (opened !== this) return;
@@ -215,8 +228,8 @@ class FilterPanel {
   }
 
   // The worst of many keys stand in a ranked list of the table, perhaps behind its first ones.
-  async askRank(told) {
-    const { column } = worthOf(told, this.table, this.keys);
+  async askRank(told, found) {
+    const { column } = worthOf(told, found, this.keys);
     const rank = told.ranks.find((one) => one.table === this.table && one.column === column);
     if (rank) {
       const list = await look(listPath("ranks", rank.rank, { limit: 1000 }));
@@ -243,8 +256,9 @@ class FilterPanel {
     }
     say(this.about, "Keys of table " + found.table + " whose " + conditionOf(found) + "; "
       + pushOf(found) + ". " + many(found.keys, "key", "keys") + "; " + changeOf(found)
-      + ". Those of the greatest value that is known stand first; their rows are asked for a few "
-      + "at a time.");
+      + ". " + (this.isWalked ? "Those of the greatest " + measureOf(found) + " stand first."
+        : "Those of the greatest value that is known stand first; their rows are asked for a few "
+        + "at a time."));
     if (!this.grid && this.table) {
       this.grid = new RowGrid(this.box, this.table, [{ label: "Asked", number: true, kind: "short",
         text: (row) => row.at ? span(Date.now() - row.at) + " ago" : "" }]);

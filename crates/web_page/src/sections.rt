@@ -3,8 +3,9 @@
 macro_rules! sections {
     ($next:ident $(, $then:ident)*; $($text:literal)*) => {
         $next!($($then),*; $($text)* r##"
-// How many proxies, keys of a filter and places of a list are shown before one asks for all.
-const FEW = 12, KEYS = 8, PLACES = 10;
+// How many proxies, keys of a filter (of one among many) and places of a list are shown before one
+// asks for all.
+const FEW = 12, KEYS = 8, FEW_KEYS = 3, PLACES = 10;
 const STATES = { away: 0, never: 1, connected: 2 };
 
 function stateOf(peer) {
@@ -16,6 +17,16 @@ function lastOf(peer) {
   return peer.last_update_ms === null ? "never" : span(peer.last_update_ms) + " ago";
 }
 
+// Of a proxy that never came nothing else is told.
+function ofCome(text) {
+  return (peer) => peer.state === "never" ? "" : text(peer);
+}
+
+function speedOf(peer) {
+  const rate = rateOf(peer.name);
+  return rate === null ? "" : count(Math.round(rate));
+}
+
 function proxyGrid(parent) {
   return new Grid(parent, "Proxies", (peer) => peer.name, [
     { label: "Proxy", kind: "name", text: (peer) => peer.name,
@@ -23,13 +34,14 @@ function proxyGrid(parent) {
     { label: "State", kind: "short", text: stateOf, mark: (peer) =>
       ({ away: "bad", never: "watch", connected: "good" })[peer.state] },
     { label: "Updates a second", number: true, order: (peer) => rateOf(peer.name) || 0,
-      text: (peer) => rateOf(peer.name) === null ? "" : count(Math.round(rateOf(peer.name))) },
-    { label: "Updates", number: true, text: (peer) => count(peer.updates),
+      text: ofCome(speedOf) },
+    { label: "Updates", number: true, text: ofCome((peer) => count(peer.updates)),
       order: (peer) => peer.updates },
-    { label: "Last update", number: true, kind: "short", text: lastOf,
+    { label: "Last update", number: true, kind: "short", text: ofCome(lastOf),
       order: (peer) => peer.last_update_ms || 0 },
-    { label: "Rows", number: true, text: (peer) => count(peer.rows), order: (peer) => peer.rows },
-    { label: "Dropped", number: true, text: (peer) => count(peer.dropped),
+    { label: "Rows", number: true, text: ofCome((peer) => count(peer.rows)),
+      order: (peer) => peer.rows },
+    { label: "Dropped", number: true, text: ofCome((peer) => count(peer.dropped)),
       order: (peer) => peer.dropped,
       mark: (peer) => droppedLately(peer) ? "bad" : peer.dropped ? "watch" : "" },
     { label: "From", kind: "short", text: (peer) => peer.from || "" },
@@ -56,15 +68,20 @@ function showProxies(told) {
   say(at("all"), at("all").isOn ? "Show fewer" : "Show all " + told.peers.length);
 }
 
-// The values of keys of a table by one of its ranked lists: the one that tells most of these keys,
-// one by a rate before others.
-function worthOf(told, table, keys) {
-  const wanted = new Set(keys);
-  const isRate = (rank) => rank.column.endsWith("_rate") ? 1 : 0;
+// The values of keys of a filter: of its own rows, where they were told, and of a ranked list of
+// its table: one by the same column, or the one that tells most of these keys.
+function worthOf(told, filter, keys) {
+  const wanted = new Set(keys), column = measureOf(filter);
+  const isOwn = (rank) => rank.column === column ? 1 : 0;
   const hits = (rank) => rank.first.filter((one) => one.value > 0 && wanted.has(one.key)).length;
-  const ranks = told.ranks.filter((rank) => rank.table === table);
-  ranks.sort((a, b) => hits(b) - hits(a) || isRate(b) - isRate(a));
-  return ranks.length ? worthBy(ranks[0].column, ranks[0].first) : { column: "", of: new Map() };
+  const ranks = told.ranks.filter((rank) => rank.table === filter.table);
+  ranks.sort((a, b) => isOwn(b) - isOwn(a) || hits(b) - hits(a));
+  const ranked = ranks.length ? worthBy(ranks[0].column, ranks[0].first) : worthBy(column, []);
+  const { rows } = lists.get(filter.filter) || {};
+  if (!rows) return ranked;
+  const own = [...rows.values()].map(({ key, values }) => ({ key, value: values[column] }));
+  const newer = ranked.column === column && ranks.length ? ranks[0].first : [];
+  return worthBy(column, [...own, ...newer]);
 }
 
 function worthBy(column, entries) {
@@ -133,12 +150,12 @@ function pushOf({ pushed, hold_ms }) {
     + " behind their leaving");
 }
 
-function showFilter(node, filter, told) {
+function showFilter(node, filter, told, most) {
   const { table, first } = filter;
   const list = lists.get(filter.filter);
   const all = first.length < filter.keys && list ? list.keys : first;
-  const worth = worthOf(told, table, all);
-  const shown = worstFirst(all, worth).slice(0, KEYS);
+  const worth = worthOf(told, filter, all);
+  const shown = worstFirst(all, worth).slice(0, most);
   const isKnown = shown.some((key) => worth.of.has(key));
   say(node.small, " of table " + table + (filter.pushed ? ", pushed" : ""));
   say(node.rule, "Keys whose " + conditionOf(filter));
@@ -154,10 +171,11 @@ function showFilters(told) {
   const full = told.filters.filter((filter) => filter.keys > 0);
   const empty = told.filters.filter((filter) => filter.keys === 0).map((filter) => filter.filter);
   full.sort((a, b) => b.keys - a.keys);
+  const most = full.length > 9 ? FEW_KEYS : KEYS;
   say(at("filters_about"), told.filters.length
     ? full.length + " of " + told.filters.length + " hold keys" : "none is configured");
   keep(at("filters"), full, (filter) => filter.filter, (filter) => card(filter.filter, "filter"),
-    (node, filter) => showFilter(node, filter, told));
+    (node, filter) => showFilter(node, filter, told, most));
   sayParts(at("filters_none"), empty.length ? ["No key in ", ...named("filter", empty, 32)] : []);
 }
 

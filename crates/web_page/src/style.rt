@@ -48,6 +48,8 @@ button {
 form { display: flex; flex-wrap: wrap; gap: 6px; align-items: center; margin: 0; }
 form label { color: var(--dim); }
 form input { flex: 1 1 13em; }
+.pair { display: flex; gap: 6px; align-items: center; }
+.list { display: grid; gap: 12px; grid-template-columns: minmax(0, 1fr); margin: 0 0 8px; }
 .card {
   background: var(--card); border: 1px solid var(--line); border-radius: 10px;
   padding: 12px 14px; min-width: 0;
@@ -59,7 +61,7 @@ form input { flex: 1 1 13em; }
 #verdict { border-left: 8px solid var(--dim); }
 #verdict.good { border-left-color: var(--good); }
 #verdict.watch { border-left-color: var(--watch); }
-#verdict.bad { border-left-color: var(--bad); background: var(--card); }
+#verdict.bad { border-left-color: var(--bad); }
 #verdict h2 { font-size: 1.25rem; }
 .good { color: var(--good); }
 .watch { color: var(--watch); }
@@ -78,6 +80,7 @@ form input { flex: 1 1 13em; }
 .flow { display: grid; gap: 14px; grid-template-columns: minmax(0, 1fr); }
 @media (min-width: 900px) { .flow { grid-template-columns: minmax(0, 3fr) minmax(0, 1fr); } }
 .facts { display: grid; gap: 6px 12px; margin: 0; grid-template-columns: 1fr auto; }
+.list .facts { max-width: 22em; margin: 0 0 8px; }
 .facts dt { color: var(--dim); }
 .facts dd { margin: 0; font-weight: 600; text-align: right; font-variant-numeric: tabular-nums; }
 .chart { position: relative; }
@@ -89,7 +92,7 @@ svg .area { fill: var(--fill); }
 svg .pick { stroke: var(--ink); stroke-dasharray: 3 3; }
 .scroll { overflow-x: auto; }
 table { border-collapse: collapse; width: 100%; font-variant-numeric: tabular-nums; }
-th, td { text-align: left; padding: 4px 10px 4px 0; vertical-align: top; }
+th, td { text-align: left; padding: 4px 16px 4px 0; vertical-align: top; }
 th { color: var(--dim); font-weight: normal; border-bottom: 1px solid var(--line); }
 th button { border: 0; padding: 0; background: none; color: inherit; text-align: inherit; }
 th button { text-decoration: underline dotted; }
@@ -97,11 +100,10 @@ th[aria-sort] button::after { content: " \25BE"; }
 th.number, td.number { text-align: right; }
 td { border-bottom: 1px solid var(--line); }
 td.name, td.key { font-weight: 600; }
+@media (min-width: 701px) { td.name, td.key { min-width: 14em; } }
 th, td.number, td.short { white-space: nowrap; overflow-wrap: normal; }
 td.key a { max-width: 44em; }
-tr.bad td, tr.watch td { color: var(--ink); }
-td.bad { color: var(--bad) !important; font-weight: 600; }
-td.watch { color: var(--watch) !important; font-weight: 600; }
+td.bad, td.watch { font-weight: 600; }
 .keys { margin: 6px 0; padding: 0; list-style: none; display: grid; gap: 3px; }
 .keys li {
   display: flex; gap: 10px; justify-content: space-between; padding: 1px 8px; border-radius: 5px;

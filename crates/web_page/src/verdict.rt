@@ -29,7 +29,7 @@ function awayFaults(told) {
   if (never.length) {
     faults.push(fault("never", "watch", many(never.length, "proxy", "proxies")
       + " never came since the collector began " + span(told.uptime_ms) + " ago: ",
-      named("proxy", never, 8), "."));
+      named("proxy", never, 4), "."));
   }
   return faults;
 }
@@ -76,9 +76,9 @@ function filterFaults(told) {
   const full = told.filters.filter((filter) => filter.keys > 0).sort((a, b) => b.keys - a.keys);
   const link = ({ filter }) => ({ text: filter, to: place({ filter }) });
   if (full.length > 4) {
-    const parts = full.slice(0, 12).flatMap((one, i) =>
+    const parts = full.slice(0, 6).flatMap((one, i) =>
       [i ? ", " : "", link(one), " " + many(one.keys, "key", "keys")]);
-    const more = full.length > 12 ? " and " + many(full.length - 12, "other", "others") : "";
+    const more = full.length > 6 ? " and " + many(full.length - 6, "other", "others") : "";
     return [fault("filters", "watch", full.length + " filters hold keys: ", parts, more + ".")];
   }
   return full.map((one) => {
@@ -86,13 +86,39 @@ function filterFaults(told) {
     const what = keys === 1 && key ? { text: key, to: place({ table, key }) }
       : many(keys, "key", "keys");
     return fault("filter " + one.filter, "watch", "Filter ", link(one), " holds ", what,
-      " of table " + table + ".");
+      " of table " + table + ": " + conditionOf(one)
+      + (one.pushed ? "; proxies are told." : "; no proxy is told."));
   });
 }
 
-// Tables that aren't followed, and connections that aren't served.
+// A line for each configured column that proxies don't send, with the proxies of whom that is so.
+function notSentFaults(told) {
+  const columns = new Map();
+  for (const peer of told.peers) {
+    for (const { table, reason } of peer.not_sent) {
+      const id = table + " " + reason;
+      if (!columns.has(id)) columns.set(id, { id, table, reason, names: [] });
+      columns.get(id).names.push(peer.name);
+    }
+  }
+  return [...columns.values()].slice(0, 6).map(({ id, table, reason, names }) =>
+    fault("not sent " + id, "watch", "Table ", { text: table, to: place({ table }) }, " of ",
+      named("proxy", names, 4), ": " + reason + ", so it counts 0 here."));
+}
+
+// Tables that are passed over, rows that were learned, lost lines, refused connections.
 function otherFaults(told) {
   const faults = [];
+  const learned = told.peers.filter((peer) => peer.learned > 0).map((peer) => peer.name);
+  if (learned.length > 1) {
+    faults.push(fault("learned", "note", "Proxies have taught rows that they learned: ",
+      named("proxy", learned, 4), ". If none of them was reloaded, they name one another beside "
+      + "the collector, and sums are multiplied."));
+  }
+  if (told.lost_lines) {
+    faults.push(fault("lost", "watch", many(told.lost_lines, "line of the log was",
+      "lines of the log were") + " lost since the collector began."));
+  }
   const passed = told.peers.filter((peer) => peer.unknown_tables > 0).map((peer) => peer.name);
   if (passed.length) {
     faults.push(fault("passed", "note", "Tables are passed over of ", named("proxy", passed, 6),
@@ -116,12 +142,12 @@ function faultsOf(told) {
   const faults = [];
   const late = told.behind_ms;
   if (late > 5000) {
-    faults.push(fault("clock", "bad", "The collector's clock stands since " + span(late)
-      + ": rows don't end, and filters and lists stay as they are."));
+    faults.push(fault("clock", "bad", "The collector's clock is " + span(late)
+      + " behind: rows end late, and filters and lists are as they were then."));
   }
   if (!told.peers.length) faults.push(fault("empty", "watch", "No proxy is configured."));
   return faults.concat(awayFaults(told), fullFaults(told), droppedFaults(told),
-    filterFaults(told), otherFaults(told));
+    filterFaults(told), notSentFaults(told), otherFaults(told));
 }
 
 // Where the collector didn't answer, what is shown is old.

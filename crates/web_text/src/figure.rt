@@ -11,7 +11,7 @@ pub(crate) struct Figure {
 pub(crate) const BUILD_INFO: Figure = Figure {
     name: b"sesamejoist_build_info",
     grows: false,
-    help: b"The version of the collector; always 1.",
+    help: b"The version of the collector, and its commit; always 1.",
 };
 
 pub(crate) const UPTIME: Figure = Figure {
@@ -80,6 +80,24 @@ pub(crate) const PROCESSOR: Figure = Figure {
     help: b"Time that processors worked for the process.",
 };
 
+pub(crate) const BEGAN: Figure = Figure {
+    name: b"process_start_time_seconds",
+    grows: false,
+    help: b"When the process began, in seconds since 1970.",
+};
+
+pub(crate) const DESCRIPTORS: Figure = Figure {
+    name: b"process_open_fds",
+    grows: false,
+    help: b"Descriptors that the process has open.",
+};
+
+pub(crate) const LOST_LINES: Figure = Figure {
+    name: b"sesamejoist_log_lines_lost_total",
+    grows: true,
+    help: b"Lines of the log that were lost.",
+};
+
 pub(crate) const PEER_CONNECTED: Figure = Figure {
     name: b"sesamejoist_peer_connected",
     grows: false,
@@ -102,6 +120,30 @@ pub(crate) const PEER_LAST_UPDATE: Figure = Figure {
     name: b"sesamejoist_peer_last_update_seconds",
     grows: false,
     help: b"How long ago the last update of a peer was posted.",
+};
+
+pub(crate) const PEER_LEARNED: Figure = Figure {
+    name: b"sesamejoist_peer_learned_updates_total",
+    grows: true,
+    help: b"Updates of a peer that it learned from other proxies, or from itself before a reload.",
+};
+
+pub(crate) const PEER_TOLD: Figure = Figure {
+    name: b"sesamejoist_peer_told_keys",
+    grows: false,
+    help: b"Keys of a pushed filter that a peer is told.",
+};
+
+pub(crate) const PEER_TOLD_AGE: Figure = Figure {
+    name: b"sesamejoist_peer_told_age_seconds",
+    grows: false,
+    help: b"How long ago a peer had been told all that there was to tell.",
+};
+
+pub(crate) const PEER_NOT_SENT: Figure = Figure {
+    name: b"sesamejoist_peer_columns_not_sent",
+    grows: false,
+    help: b"Configured columns that followed tables of a peer's connection don't bring.",
 };
 
 pub(crate) const PEER_UNFOLLOWED: Figure = Figure {

@@ -27,5 +27,5 @@ pub use part::is_behind;
 pub use peers::{AskFault, Entries, begin_list, end_list, peer_list};
 pub use prometheus::figures;
 pub use shown::{overview, put_table};
-pub use standing::{PeerStanding, Standing};
+pub use standing::{NotSent, PeerStanding, Standing};
 pub use summary::{FilterSum, PeerRows, RankSum, Summary};

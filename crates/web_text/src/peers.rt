@@ -6,18 +6,21 @@ ghost use Rattle.web_text.specs.declared.peers.AskFault.TheVariants.{BadKey, NoM
 ghost use Rattle.web_text.specs.Places.{first_behind};
 
 use crate::objects::Json;
-use crate::shown::put_peer;
+use crate::shown::{put_peer, told_peer};
 use crate::standing::Standing;
 use crate::summary::Summary;
 use agg_types::{Config, NoMemory};
 use std::alloc::Global;
+use thiserror::Error;
 
 /// Why a list isn't told.
-#[derive(Clone, Copy, Debug, PartialEq, Eq)]
+#[derive(Clone, Copy, Debug, PartialEq, Eq, Error)]
 pub enum AskFault {
     /// What it is asked for behind is no key of its table, or no peer.
+    #[error("after is no key of the list")]
     BadKey,
     /// An allocation failed.
+    #[error("out of memory")]
     NoMemory,
 }
 
@@ -87,8 +90,8 @@ pub fn peer_list(
     json.begin_list("entries")?;
     let mut left = entries.limit;
     let mut more = false;
-    for (place, peer) in standing.peers.as_slice().iter().enumerate().skip(first) {
-        let Some(name) = config.peers.get(place) else {
+    for place in first..standing.peers.len() {
+        let Some(told) = told_peer(config, summary, standing, place) else {
             break;
         };
         if left == 0 {
@@ -96,8 +99,7 @@ pub fn peer_list(
             break;
         }
         left -= 1;
-        let held = summary.of_peer(place);
-        put_peer(alloc, &mut json, name.as_slice(), peer, held, standing.now)?;
+        put_peer(alloc, &mut json, told, standing.now)?;
     }
     Ok(end_list(json, more)?)
 }

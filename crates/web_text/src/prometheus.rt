@@ -126,6 +126,8 @@ pub fn figures(
     };
     put_collector(&mut lines, summary, standing)?;
     put_peers(&mut lines, config, standing)?;
+    put_told(&mut lines, config, standing)?;
+    put_not_sent(&mut lines, config, standing)?;
     put_held(&mut lines, config, summary)?;
     put_tables(&mut lines, config, summary)?;
     put_filters(&mut lines, config, summary)?;
@@ -141,7 +143,9 @@ fn put_collector(
 ) -> Result<(), NoMemory> {
     lines.head(BUILD_INFO)?;
     let version = standing.version.as_bytes();
-    lines.value(BUILD_INFO, &[(b"version", version)], count(1))?;
+    let commit = standing.commit.as_bytes();
+    let labels: [Label<'_>; 2] = [(b"commit", commit), (b"version", version)];
+    lines.value(BUILD_INFO, &labels, count(1))?;
     let late = summary.looked.saturating_sub(summary.moment);
     let age = standing.now.saturating_sub(summary.looked);
     lines.alone(UPTIME, Value::Time(standing.now))?;
@@ -153,13 +157,23 @@ fn put_collector(
     lines.alone(REFUSED, count(standing.refused))?;
     lines.alone(WAITING, count(standing.waiting as u64))?;
     lines.alone(SEATS, count(standing.seats))?;
-    if let Some(bytes) = standing.memory {
-        lines.alone(MEMORY, count(bytes))?;
+    lines.alone(LOST_LINES, count(standing.lost_lines))?;
+    put_process(lines, standing)
+}
+
+// What the process takes, where it is known.
+fn put_process(lines: &mut Lines, standing: &Standing) -> Result<(), NoMemory> {
+    for (figure, value) in [
+        (MEMORY, standing.memory.map(count)),
+        (PROCESSOR, standing.processor.map(Value::Time)),
+        (BEGAN, standing.began.map(Value::Time)),
+        (DESCRIPTORS, standing.descriptors.map(count)),
+    ] {
+        if let Some(value) = value {
+            lines.alone(figure, value)?;
+        }
     }
-    match standing.processor {
-        None => Ok(()),
-        Some(time) => lines.alone(PROCESSOR, Value::Time(time)),
-    }
+    Ok(())
 }
 
 /// What is told of each peer.
@@ -169,15 +183,19 @@ enum OfPeer {
     Since,
     Updates,
     LastUpdate,
+    Learned,
+    ToldAge,
     Unfollowed,
 }
 
 impl OfPeer {
-    const ALL: [OfPeer; 5] = [
+    const ALL: [OfPeer; 7] = [
         OfPeer::Connected,
         OfPeer::Since,
         OfPeer::Updates,
         OfPeer::LastUpdate,
+        OfPeer::Learned,
+        OfPeer::ToldAge,
         OfPeer::Unfollowed,
     ];
 
@@ -187,6 +205,8 @@ impl OfPeer {
             OfPeer::Since => PEER_STATE,
             OfPeer::Updates => PEER_UPDATES,
             OfPeer::LastUpdate => PEER_LAST_UPDATE,
+            OfPeer::Learned => PEER_LEARNED,
+            OfPeer::ToldAge => PEER_TOLD_AGE,
             OfPeer::Unfollowed => PEER_UNFOLLOWED,
         }
     }
@@ -198,6 +218,8 @@ impl OfPeer {
             OfPeer::Since => time_ago(peer.since, now),
             OfPeer::Updates => Some(count(peer.updates)),
             OfPeer::LastUpdate => time_ago(peer.last_update, now),
+            OfPeer::Learned => Some(count(peer.learned)),
+            OfPeer::ToldAge => time_ago(peer.told_at, now),
             OfPeer::Unfollowed => Some(count(peer.unfollowed as u64)),
         }
     }
@@ -214,6 +236,44 @@ fn put_peers(lines: &mut Lines, config: &Config, standing: &Standing) -> Result<
             if let Some(value) = of_peer.of(peer, standing.now) {
                 lines.value(figure, &[(b"peer", name.as_slice())], value)?;
             }
+        }
+    }
+    Ok(())
+}
+
+// How many keys each peer is told of each pushed filter.
+fn put_told(lines: &mut Lines, config: &Config, standing: &Standing) -> Result<(), NoMemory> {
+    lines.head(PEER_TOLD)?;
+    for (place, told) in standing.told.as_slice().iter().enumerate() {
+        if let Some(peer) = config.peers.get(place) {
+            put_told_to(lines, config, peer.as_slice(), told.as_slice())?;
+        }
+    }
+    Ok(())
+}
+
+// How many keys a peer is told of each pushed filter.
+fn put_told_to(
+    lines: &mut Lines,
+    config: &Config,
+    peer: &[u8],
+    told: &[u64],
+) -> Result<(), NoMemory> {
+    for (push, keys) in config.pushes.as_slice().iter().zip(told) {
+        let filter = push.name.as_slice();
+        let labels: [Label<'_>; 2] = [(b"peer", peer), (b"filter", filter)];
+        lines.value(PEER_TOLD, &labels, count(*keys))?;
+    }
+    Ok(())
+}
+
+// How many configured columns each peer doesn't send.
+fn put_not_sent(lines: &mut Lines, config: &Config, standing: &Standing) -> Result<(), NoMemory> {
+    lines.head(PEER_NOT_SENT)?;
+    for (place, columns) in standing.not_sent.as_slice().iter().enumerate() {
+        if let Some(peer) = config.peers.get(place) {
+            let labels: [Label<'_>; 1] = [(b"peer", peer.as_slice())];
+            lines.value(PEER_NOT_SENT, &labels, count(columns.len() as u64))?;
         }
     }
     Ok(())

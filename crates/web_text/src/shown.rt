@@ -4,7 +4,7 @@ ghost use Rattle.std.specs.Prelude.{◌≡◌, IfOk};
 ghost use Rattle.web_text.specs.Places.{kind_at};
 
 use crate::objects::Json;
-use crate::standing::{PeerStanding, Standing};
+use crate::standing::{NotSent, PeerStanding, Standing};
 use crate::summary::{FilterSum, PeerRows, RankSum, Summary};
 use agg_types::{Cond, Config, KeyKind, NoMemory, Push, Shape};
 use line_words::operator_word;
@@ -49,6 +49,7 @@ fn put_standing(json: &mut Json, standing: &Standing) -> Result<(), NoMemory> {
     json.number("posts", standing.posts)?;
     json.number("waiting", standing.waiting as u64)?;
     json.number("refused", standing.refused)?;
+    json.number("lost_lines", standing.lost_lines)?;
     json.begin_list("updates_per_second")?;
     for rate in standing.rates.as_slice() {
         json.number_item(*rate)?;
@@ -62,15 +63,50 @@ pub(crate) fn ago(moment: Option<u64>, now: u64) -> Option<u64> {
     Some(now.saturating_sub(moment))
 }
 
+/// How many of the columns that a peer doesn't send are told in words.
+const MOST_NOT_SENT: usize = 8;
+
+/// What is told of a peer.
+#[derive(Clone, Copy)]
+pub(crate) struct ToldPeer<'c, 's> {
+    pub(crate) name: &'c [u8],
+    pub(crate) peer: &'s PeerStanding,
+    pub(crate) held: PeerRows,
+    pub(crate) not_sent: &'s [NotSent],
+}
+
+/// What is told of the peer at a place of the configuration, if it has one there.
+pub(crate) fn told_peer<'c, 's>(
+    config: &'c Config,
+    summary: &Summary,
+    standing: &'s Standing,
+    place: usize,
+) -> Option<ToldPeer<'c, 's>> {
+    let not_sent = match standing.not_sent.as_slice().get(place) {
+        None => &[],
+        Some(columns) => columns.as_slice(),
+    };
+    Some(ToldPeer {
+        name: config.peers.get(place)?.as_slice(),
+        peer: standing.peers.as_slice().get(place)?,
+        held: summary.of_peer(place),
+        not_sent,
+    })
+}
+
 /// Puts a peer with what it holds, as a member of a list, at so many ms after the start.
 pub(crate) fn put_peer(
     alloc: Global,
     json: &mut Json,
-    name: &[u8],
-    peer: &PeerStanding,
-    held: PeerRows,
+    told: ToldPeer<'_, '_>,
     now: u64,
 ) -> Result<(), NoMemory> {
+    let ToldPeer {
+        name,
+        peer,
+        held,
+        not_sent,
+    } = told;
     json.begin_object()?;
     json.text("name", name)?;
     json.text("state", peer.state().as_bytes())?;
@@ -87,7 +123,24 @@ pub(crate) fn put_peer(
     json.number("rows", held.rows)?;
     json.number("dropped", held.dropped)?;
     json.number("unknown_tables", peer.unfollowed as u64)?;
+    json.number("told", peer.told)?;
+    json.number("learned", peer.learned)?;
+    json.number_if("told_age_ms", ago(peer.told_at, now))?;
+    json.number("columns_not_sent", not_sent.len() as u64)?;
+    put_not_sent(json, not_sent)?;
     json.end_object()
+}
+
+// The first of the columns that a peer doesn't send.
+fn put_not_sent(json: &mut Json, not_sent: &[NotSent]) -> Result<(), NoMemory> {
+    json.begin_list("not_sent")?;
+    for column in not_sent.iter().take(MOST_NOT_SENT) {
+        json.begin_object()?;
+        json.text("table", column.table.as_slice())?;
+        json.text("reason", column.reason.as_bytes())?;
+        json.end_object()?;
+    }
+    json.end_list()
 }
 
 fn put_peers(
@@ -98,12 +151,11 @@ fn put_peers(
     standing: &Standing,
 ) -> Result<(), NoMemory> {
     json.begin_list("peers")?;
-    for (place, peer) in standing.peers.as_slice().iter().enumerate() {
-        let Some(name) = config.peers.get(place) else {
+    for place in 0..standing.peers.len() {
+        let Some(told) = told_peer(config, summary, standing, place) else {
             break;
         };
-        let held = summary.of_peer(place);
-        put_peer(alloc, json, name.as_slice(), peer, held, standing.now)?;
+        put_peer(alloc, json, told, standing.now)?;
     }
     json.end_list()
 }

@@ -18,6 +18,12 @@ pub struct PeerStanding {
     pub last_update: Option<u64>,
     /// How many tables of its present or last connection aren't followed.
     pub unfollowed: usize,
+    /// How many keys of pushed tables it is told; 0 while it is away.
+    pub told: u64,
+    /// How many of its updates were of rows that it learned from others.
+    pub learned: u64,
+    /// When it last had been told all that there was to tell; none while it is away.
+    pub told_at: Option<u64>,
 }
 
 impl PeerStanding {
@@ -35,11 +41,22 @@ impl PeerStanding {
     }
 }
 
+/// A configured column that a peer's definition of a followed table doesn't bring.
+#[derive(Debug, Drop)]
+pub struct NotSent {
+    /// The table, by its name.
+    pub table: Vec<u8>,
+    /// Which column that is, and why, in words.
+    pub reason: String,
+}
+
 /// What stands of a collector beside its book.
 #[derive(Debug, Drop)]
 pub struct Standing {
     /// The version of the program.
     pub version: &'static str,
+    /// From which commit the program was proved; nothing where that isn't known.
+    pub commit: String,
     /// The time since the start, in ms.
     pub now: u64,
     /// How many configured peers are connected.
@@ -58,8 +75,19 @@ pub struct Standing {
     pub memory: Option<u64>,
     /// How long processors worked for the process, in ms, where it is known.
     pub processor: Option<u64>,
+    /// When the process began, in ms since 1970, where it is known.
+    pub began: Option<u64>,
+    /// How many descriptors the process has open, where it is known.
+    pub descriptors: Option<u64>,
+    /// How many lines of the log were lost.
+    pub lost_lines: u64,
     /// Those of the configuration, in its order.
     pub peers: Vec<PeerStanding>,
+    /// How many keys each of them is told of each pushed table: by peer, then by the line that
+    /// pushes.
+    pub told: Vec<Vec<u64>>,
+    /// Which configured columns each of them doesn't send, by peer.
+    pub not_sent: Vec<Vec<NotSent>>,
     /// How many updates came in each of the last seconds, the oldest first.
     pub rates: Vec<u64>,
 }
