@@ -1,21 +1,16 @@
 //! What stands of each peer, and what was counted, for operators who ask.
 
-use crate::judging::Verdict;
-use agg_types::NoMemory;
 use agg_types::limits::MOST_FOLLOWED;
+use agg_types::{Key, NoMemory};
+use defined_tables::{DefinedTable, DefinedTables, Mention, Mentioned};
+use learned_rows::{Sessions, Suspect};
+use serve::Taught;
 use std::alloc::Global;
 use std::net::SocketAddr;
 use std::sync::atomic::{AtomicU64, Ordering};
 use std::sync::{Mutex, Wait};
 use web_serve::Rates;
-use web_text::PeerStanding;
-
-/// A table that a peer's present or last connection defined.
-#[derive(Drop)]
-struct Defined {
-    name: Vec<u8>,
-    verdict: Verdict,
-}
+use web_text::{NotSent, PeerStanding};
 
 /// What stands of a peer, beside its counts.
 #[derive(Drop)]
@@ -25,17 +20,74 @@ struct Standing {
     address: Option<SocketAddr>,
     // since when that is so, in ms; none where it never came
     since: Option<u64>,
-    tables: Vec<Defined>,
-    // whether columns of its present or last connection were skipped
-    has_skipped: bool,
+    // what its present or last connection defined
+    tables: DefinedTables,
+    // what was told of its tables, whatever connection defined them
+    mentioned: Mentioned,
 }
 
-/// What a peer's sessions posted.
+/// What a peer's sessions posted, and what the peer was told.
 #[derive(Drop)]
 struct Tally {
     updates: AtomicU64,
     // the moment of the last of them, in ms, and one; 0 before the first
     last: AtomicU64,
+    // how many of the updates were of rows that the peer learned from others
+    learned: AtomicU64,
+    // the seat of its newest session, and one; 0 where that is over, or none came
+    seat: AtomicU64,
+    // how many keys of each pushed table its newest session has told it
+    told: Vec<AtomicU64>,
+}
+
+impl Tally {
+    // Nothing, with so many pushed tables.
+    fn new(alloc: Global, pushed: usize) -> Result<Tally, NoMemory> {
+        let mut told = Vec::new(alloc);
+        for _ in 0..pushed {
+            told.push(AtomicU64::new(0))?;
+        }
+        Ok(Tally {
+            updates: AtomicU64::new(0),
+            last: AtomicU64::new(0),
+            learned: AtomicU64::new(0),
+            seat: AtomicU64::new(0),
+            told,
+        })
+    }
+
+    // A session with a seat is the newest one, or that is over where it was: nothing is told.
+    fn begin(&self, seat: u64) {
+        self.seat.store(seat, Ordering::SeqCst);
+        for told in self.told.as_slice() {
+            told.store(0, Ordering::SeqCst);
+        }
+    }
+
+    // How many keys of a pushed table are told, by the place of its line.
+    fn told_of(&self, pushed: usize) -> u64 {
+        match self.told.as_slice().get(pushed) {
+            None => 0,
+            Some(told) => told.load(Ordering::SeqCst),
+        }
+    }
+
+    // How many keys of all pushed tables are told.
+    fn told(&self) -> u64 {
+        let mut keys = 0u64;
+        for told in self.told.as_slice() {
+            keys = keys.saturating_add(told.load(Ordering::SeqCst));
+        }
+        keys
+    }
+}
+
+// The seat of a session, and one; 0 where it has none.
+fn seat_of(seat: Option<u64>) -> u64 {
+    match seat {
+        None => 0,
+        Some(seat) => seat.saturating_add(1),
+    }
 }
 
 /// What was counted of all.
@@ -51,12 +103,15 @@ pub struct Totals {
 
 /// What stands of each peer, and what was counted.
 ///
-/// What a session posts is counted without a lock. The lock is held for a few fields, never while
-/// anything is waited for or written.
+/// What a session posts is counted without a lock. A lock is held for a few fields, never while
+/// anything is waited for or written. That of what sessions taught is held longer, to copy 1,000
+/// keys once a second, and to compare as many with one another once a session and table.
 #[derive(Drop)]
 pub struct Board {
     alloc: Global,
     peers: Mutex<Vec<Standing>>,
+    // what the present sessions taught, by table
+    sessions: Mutex<Sessions>,
     tallies: Vec<Tally>,
     posts: AtomicU64,
     seats: AtomicU64,
@@ -68,8 +123,8 @@ pub struct Board {
 }
 
 impl Board {
-    /// So many peers, of which none came yet.
-    pub fn new(alloc: Global, peers: usize) -> Result<Board, NoMemory> {
+    /// So many peers, of which none came yet, and so many pushed tables.
+    pub fn new(alloc: Global, peers: usize, pushed: usize) -> Result<Board, NoMemory> {
         let mut standings = Vec::new(alloc);
         let mut tallies = Vec::new(alloc);
         for _ in 0..peers {
@@ -77,17 +132,15 @@ impl Board {
                 connections: 0,
                 address: None,
                 since: None,
-                tables: Vec::new(alloc),
-                has_skipped: false,
+                tables: DefinedTables::new(alloc),
+                mentioned: Mentioned::new(alloc),
             })?;
-            tallies.push(Tally {
-                updates: AtomicU64::new(0),
-                last: AtomicU64::new(0),
-            })?;
+            tallies.push(Tally::new(alloc, pushed)?)?;
         }
         Ok(Board {
             alloc,
             peers: Mutex::new(standings),
+            sessions: Mutex::new(Sessions::new(alloc, peers)?),
             tallies,
             posts: AtomicU64::new(0),
             seats: AtomicU64::new(0),
@@ -97,8 +150,23 @@ impl Board {
         })
     }
 
-    /// A connection of a peer begins at a moment, in ms.
-    pub fn come<R: Wait>(&self, rt: &R, peer: usize, address: Option<SocketAddr>, now: u64) {
+    /// A connection of a peer begins at a moment, in ms, whose session has this seat.
+    pub fn come<R: Wait>(
+        &self,
+        rt: &R,
+        peer: usize,
+        seat: Option<u64>,
+        address: Option<SocketAddr>,
+        now: u64,
+    ) {
+        if let Some(tally) = self.tallies.as_slice().get(peer) {
+            tally.begin(seat_of(seat));
+        }
+        {
+            let mut guard = self.sessions.lock(rt);
+            let sessions = &mut *guard;
+            sessions.begin(peer, seat_of(seat));
+        }
         let mut guard = self.peers.lock(rt);
         let peers = &mut *guard;
         let Some(standing) = peers.get_mut(peer) else {
@@ -108,11 +176,20 @@ impl Board {
         standing.address = address;
         standing.since = Some(now);
         standing.tables.clear();
-        standing.has_skipped = false;
     }
 
-    /// A connection of a peer is over at a moment, in ms.
-    pub fn go<R: Wait>(&self, rt: &R, peer: usize, now: u64) {
+    /// A connection of a peer is over at a moment, in ms, whose session had this seat.
+    pub fn go<R: Wait>(&self, rt: &R, peer: usize, seat: Option<u64>, now: u64) {
+        if let Some(tally) = self.tallies.as_slice().get(peer)
+            && tally.seat.load(Ordering::SeqCst) == seat_of(seat)
+        {
+            tally.begin(0);
+        }
+        {
+            let mut guard = self.sessions.lock(rt);
+            let sessions = &mut *guard;
+            sessions.end(peer, seat_of(seat));
+        }
         let mut guard = self.peers.lock(rt);
         let peers = &mut *guard;
         let Some(standing) = peers.get_mut(peer) else {
@@ -133,6 +210,73 @@ impl Board {
         if let Some(tally) = self.tallies.as_slice().get(peer) {
             tally.updates.fetch_add(updates, Ordering::SeqCst);
             tally.last.store(now.saturating_add(1), Ordering::SeqCst);
+        }
+    }
+
+    /// A peer's session with this seat taught so many updates of a table more.
+    pub fn teach<R: Wait>(
+        &self,
+        rt: &R,
+        peer: usize,
+        seat: Option<u64>,
+        table: usize,
+        taught: Taught,
+    ) {
+        let Taught { own, learned } = taught;
+        if let Some(tally) = self.tallies.as_slice().get(peer) {
+            tally.learned.fetch_add(learned, Ordering::SeqCst);
+        }
+        let mut guard = self.sessions.lock(rt);
+        let sessions = &mut *guard;
+        sessions.count(peer, seat_of(seat), table, own, learned);
+    }
+
+    /// A peer's session with this seat taught rows of these keys that the peer had learned.
+    pub fn hear<R: Wait>(
+        &self,
+        rt: &R,
+        peer: usize,
+        seat: Option<u64>,
+        table: usize,
+        keys: &[Key],
+    ) {
+        let mut guard = self.sessions.lock(rt);
+        let sessions = &mut *guard;
+        sessions.hear(peer, seat_of(seat), table, keys);
+    }
+
+    /// The next peer whose present session may teach what another one's teaches.
+    pub fn suspect<R: Wait>(&self, rt: &R) -> Option<Suspect> {
+        let mut guard = self.sessions.lock(rt);
+        let sessions = &mut *guard;
+        sessions.suspect()
+    }
+
+    /// Whether a suspect is to be told: its session goes on, and wasn't told of the table. It is
+    /// taken for told then.
+    pub fn is_untold<R: Wait>(&self, rt: &R, suspect: &Suspect) -> bool {
+        let mut guard = self.sessions.lock(rt);
+        let sessions = &mut *guard;
+        sessions.tell(suspect)
+    }
+
+    /// A peer's session with this seat has told the peer so many keys of a pushed table. What an
+    /// older session tells beside a newer one counts for nothing.
+    pub fn tell(&self, peer: usize, seat: Option<u64>, pushed: usize, keys: u64) {
+        if let Some(tally) = self.tallies.as_slice().get(peer)
+            && tally.seat.load(Ordering::SeqCst) == seat_of(seat)
+            && let Some(told) = tally.told.as_slice().get(pushed)
+        {
+            told.store(keys, Ordering::SeqCst);
+        }
+    }
+
+    /// How many keys of a pushed table a peer is told, by the place of its line; 0 while the peer
+    /// is away.
+    pub fn told(&self, peer: usize, pushed: usize) -> u64 {
+        match self.tallies.as_slice().get(peer) {
+            None => 0,
+            Some(tally) => tally.told_of(pushed),
         }
     }
 
@@ -188,25 +332,23 @@ impl Board {
 
     /// A peer's session defined a table: whether that is news, since it didn't define it before, or
     /// another came of it. At most 256 tables of a connection are kept.
-    pub fn define<R: Wait>(&self, rt: &R, peer: usize, name: &[u8], verdict: Verdict) -> bool {
+    pub fn define<R: Wait>(&self, rt: &R, peer: usize, table: DefinedTable) -> bool {
         let mut guard = self.peers.lock(rt);
         let peers = &mut *guard;
         let Some(standing) = peers.get_mut(peer) else {
             return false;
         };
-        add_table(self.alloc, &mut standing.tables, name, verdict)
+        standing.tables.define(table)
     }
 
-    /// Columns of a peer's session are skipped: whether that is news.
-    pub fn skip<R: Wait>(&self, rt: &R, peer: usize) -> bool {
+    /// Whether this is to be told of a peer: it wasn't before. It is taken for told then.
+    pub fn is_news<R: Wait>(&self, rt: &R, peer: usize, mention: Mention) -> bool {
         let mut guard = self.peers.lock(rt);
         let peers = &mut *guard;
         let Some(standing) = peers.get_mut(peer) else {
             return false;
         };
-        let is_news = !standing.has_skipped;
-        standing.has_skipped = true;
-        is_news
+        standing.mentioned.is_news(mention)
     }
 
     /// What stands of a peer.
@@ -222,8 +364,29 @@ impl Board {
             since: standing.since,
             updates,
             last_update: last.checked_sub(1),
-            unfollowed: count_unfollowed(standing.tables.as_slice()),
+            unfollowed: standing.tables.count_unknown(),
+            told: tally.told(),
+            learned: tally.learned.load(Ordering::SeqCst),
+            told_at: None,
         })
+    }
+
+    /// Which configured columns the followed tables of a peer's present or last connection don't
+    /// bring.
+    pub fn not_sent<R: Wait>(&self, rt: &R, peer: usize) -> Result<Vec<NotSent>, NoMemory> {
+        let mut columns = Vec::new(self.alloc);
+        for place in 0..MOST_FOLLOWED {
+            let Some(table) = self.table(rt, peer, place)? else {
+                break;
+            };
+            for lacking in table.lacks.as_slice() {
+                columns.push(NotSent {
+                    table: Vec::from_slice(self.alloc, table.name.as_slice())?,
+                    reason: format!(in self.alloc; "{lacking}")?,
+                })?;
+            }
+        }
+        Ok(columns)
     }
 
     /// The table at a place of those that a peer's present or last connection defined.
@@ -232,16 +395,15 @@ impl Board {
         rt: &R,
         peer: usize,
         place: usize,
-    ) -> Result<Option<(Vec<u8>, Verdict)>, NoMemory> {
+    ) -> Result<Option<DefinedTable>, NoMemory> {
         let guard = self.peers.lock(rt);
         let Some(standing) = guard.get(peer) else {
             return Ok(None);
         };
-        let Some(table) = standing.tables.as_slice().get(place) else {
-            return Ok(None);
-        };
-        let name = Vec::from_slice(self.alloc, table.name.as_slice())?;
-        Ok(Some((name, table.verdict)))
+        match standing.tables.get(place) {
+            None => Ok(None),
+            Some(table) => Ok(Some(table.duplicate(self.alloc)?)),
+        }
     }
 
     // How many peers are connected.
@@ -266,41 +428,4 @@ impl Board {
             refused: self.refused.load(Ordering::SeqCst),
         }
     }
-}
-
-// How many of these tables are passed over.
-fn count_unfollowed(tables: &[Defined]) -> usize {
-    let mut unfollowed = 0usize;
-    for table in tables {
-        if table.verdict.is_unknown() {
-            unfollowed = unfollowed.saturating_add(1);
-        }
-    }
-    unfollowed
-}
-
-// Keeps a table, or what comes of one that is kept: whether that is news. As many are kept as a
-// session ever follows.
-fn add_table(alloc: Global, tables: &mut Vec<Defined>, name: &[u8], verdict: Verdict) -> bool {
-    let is_same = |table: &Defined| table.name.as_slice() == name;
-    if let Some(place) = tables.iter().position(is_same) {
-        return set_verdict(tables, place, verdict);
-    }
-    if tables.len() >= MOST_FOLLOWED {
-        return false;
-    }
-    let Ok(name) = Vec::from_slice(alloc, name) else {
-        return false;
-    };
-    tables.push(Defined { name, verdict }).is_ok()
-}
-
-// Sets what comes of a table: whether that is news.
-fn set_verdict(tables: &mut Vec<Defined>, place: usize, verdict: Verdict) -> bool {
-    let Some(table) = tables.get_mut(place) else {
-        return false;
-    };
-    let is_news = table.verdict != verdict;
-    table.verdict = verdict;
-    is_news
 }

@@ -1,10 +1,12 @@
-//! What the log says of full tables.
+//! What the log says of full tables, and the watch that looks at the book for it, for the keys of
+//! logged filters and for rows that several peers teach.
 
-use crate::journal::Journal;
-use crate::log::Event;
+use crate::board::Board;
 use agg_types::NoMemory;
 use book::Book;
 use hub::{Hub, Naming};
+use journal::{Event, Journal};
+use logged_keys::{KeyLine, KeyLines, LoggedKeys};
 use sockets::{Connections, Ticks};
 use std::alloc::Global;
 use std::sync::Wait;
@@ -115,19 +117,65 @@ fn note<R: Clock + Wait>(rt: &R, journal: &Journal, book: &Book, table: usize, p
     journal.note(rt, event);
 }
 
-/// What looks at the book once a second for what full tables didn't take, in a thread of its own
-/// beside the visits.
+/// The lines of logged keys, on their way into the log.
 #[derive(Drop)]
-pub struct Watch<'h, 'j, 't, 'c, J: Naming, R: Wait + Drop> {
+pub struct Noted<'r, 'j, R> {
+    pub rt: &'r R,
+    pub journal: &'j Journal,
+}
+
+impl<'r, 'j, R: Clock + Wait> KeyLines for Noted<'r, 'j, R> {
+    fn note(&self, line: KeyLine<'_>) {
+        self.journal.note(self.rt, Event::Key(line));
+    }
+
+    fn lose(&self) {
+        self.journal.lose(self.rt, 1);
+    }
+}
+
+/// Asks a book of one peer whose session taught more learned rows than own ones, beside another one
+/// of which that holds. Where both hold the same rows it notes a line, once a session and table. At
+/// most 1,000 keys are looked up for it, each at most twice, and no lock is held meanwhile.
+pub fn note_learned<R: Clock + Wait>(rt: &R, journal: &Journal, board: &Board, book: &Book) {
+    let Some(suspect) = board.suspect(rt) else {
+        return;
+    };
+    let config = book.config();
+    let (Some(shape), Some(peer), Some(other)) = (
+        config.tables.get(suspect.table),
+        config.peers.get(suspect.peer),
+        config.peers.get(suspect.other),
+    ) else {
+        return;
+    };
+    if suspect.is_proved(book) && board.is_untold(rt, &suspect) {
+        let event = Event::RowsLearned {
+            peer: peer.as_slice(),
+            table: shape.name.as_slice(),
+            learned: suspect.learned,
+            own: suspect.own,
+            other: other.as_slice(),
+        };
+        journal.note(rt, event);
+    }
+}
+
+/// What looks at the book once a second for what full tables didn't take, for the keys of logged
+/// filters and for rows that several peers teach, in a thread of its own beside the visits.
+#[derive(Drop)]
+pub struct Watch<'h, 'j, 't, 'c, 'b, J: Naming, R: Wait + Drop> {
     pub rt: R,
     pub alloc: Global,
     pub hub: &'h Hub<J, R>,
     pub journal: &'j Journal,
     pub clock: &'t Ticks<R>,
     pub connections: &'c Connections,
+    pub board: &'b Board,
 }
 
-impl<'h, 'j, 't, 'c, J: Naming, R: Clock + Wait + Drop> Visits for Watch<'h, 'j, 't, 'c, J, R> {
+impl<'h, 'j, 't, 'c, 'b, J: Naming, R: Clock + Wait + Drop> Visits
+    for Watch<'h, 'j, 't, 'c, 'b, J, R> {
     fn threads(&self) -> u64 {
         1
     }
@@ -139,8 +187,15 @@ impl<'h, 'j, 't, 'c, J: Naming, R: Clock + Wait + Drop> Visits for Watch<'h, 'j,
         let Ok(mut fullness) = Fullness::new(self.alloc, peers, tables) else {
             return;
         };
+        let Ok(mut keys) = LoggedKeys::new(self.alloc, config) else {
+            return;
+        };
         let Ok(mut lens) = self.hub.lens(&self.rt) else {
             return;
+        };
+        let noted = Noted {
+            rt: &self.rt,
+            journal: self.journal,
         };
         for turn in 0..u64::MAX {
             if self.connections.are_closed() {
@@ -153,6 +208,10 @@ impl<'h, 'j, 't, 'c, J: Naming, R: Clock + Wait + Drop> Visits for Watch<'h, 'j,
             if let Some(look) = lens.look() {
                 let now = self.clock.moment();
                 fullness.look(&self.rt, self.journal, look.book(), now);
+                note_learned(&self.rt, self.journal, self.board, look.book());
+                if let Ok(round) = keys.round(&look) {
+                    round.note(self.alloc, look.book(), &noted);
+                }
             }
         }
     }

@@ -3,12 +3,12 @@
 ghost use Rattle.std.specs.Prelude.{◌<◌, length};
 
 use crate::board::Board;
-use crate::judging::{Because, Verdict};
-use crate::log::Value;
-use crate::memory::Memory;
 use agg_types::{Config, NoMemory};
 use book::Book;
 use command_line::VERSION;
+use defined_tables::{Because, DefinedTable, Lacking, Verdict};
+use logged_keys::Value;
+use process_figures::Usage;
 use sockets::Connections;
 use std::alloc::Global;
 use std::fmt;
@@ -21,16 +21,18 @@ use web_text::{PeerRows, PeerStanding};
 pub const HELP: &[u8] = b"add filter <filter> <table> data.<column> <operator> <value> ..
 clear table <table> [key <key> | data.<column> <operator> <value> ..]
 del filter <filter>
+exit
 help
+prompt
 quit
 show config
-show filter <filter>
+show filter [<filter>]
 show filters
 show info
 show key <table> <key>
 show next <filter>
 show peers [<peer>]
-show rank <rank>
+show rank [<rank>]
 show ranks
 show table [<table> [key <key> | data.<column> <operator> <value> ..]]
 ";
@@ -88,16 +90,29 @@ impl fmt::Display for Known {
     }
 }
 
-/// Appends the collector's counters, so many ms after its start, and its memory.
-pub fn append_info<R: Wait + Memory>(
+/// What counts of a collector.
+#[derive(Clone, Copy)]
+pub struct Counters<'a> {
+    pub board: &'a Board,
+    pub connections: &'a Connections,
+    pub book: &'a Book,
+    /// The time since its start, in ms.
+    pub uptime: u64,
+}
+
+/// Appends the collector's counters, and its memory.
+pub fn append_info<R: Wait + Usage>(
     rt: &R,
     alloc: Global,
-    board: &Board,
-    connections: &Connections,
-    uptime: u64,
-    book: &Book,
+    counters: Counters<'_>,
     out: &mut Vec<u8>,
 ) -> Result<(), NoMemory> {
+    let Counters {
+        board,
+        connections,
+        book,
+        uptime,
+    } = counters;
     let totals = board.totals(rt);
     append_line(alloc, "version", VERSION, out)?;
     append_line(alloc, "uptime_ms", uptime, out)?;
@@ -125,17 +140,6 @@ impl fmt::Display for From {
     }
 }
 
-// A peer's state in a word.
-fn state_of(peer: &PeerStanding) -> &'static str {
-    if peer.is_connected {
-        "connected"
-    } else if peer.since.is_some() {
-        "away"
-    } else {
-        "never"
-    }
-}
-
 // The line of a peer. One that never came is in that state since the start.
 #[derive(Clone, Copy)]
 struct PeerLine<'a> {
@@ -155,12 +159,13 @@ impl<'a> fmt::Display for PeerLine<'a> {
         } = *self;
         let since = now.saturating_sub(peer.since.unwrap_or(0));
         let name = Value(name);
-        write!(f, "peer={name} state={}", state_of(&peer))?;
+        write!(f, "peer={name} state={}", peer.state())?;
         write!(f, " from={} since_ms={since}", From(peer.address))?;
         let last = Known(peer.last_update.map(|moment| now.saturating_sub(moment)));
         write!(f, " updates={} last_update_ms={last}", peer.updates)?;
         write!(f, " rows={} dropped={}", held.rows, held.dropped)?;
-        write!(f, " unknown_tables={}", peer.unfollowed)
+        write!(f, " unknown_tables={}", peer.unfollowed)?;
+        write!(f, " told={} learned={}", peer.told, peer.learned)
     }
 }
 
@@ -189,26 +194,89 @@ pub fn append_peers<R: Wait>(
     Ok(())
 }
 
-// The line of a table.
+// Why a table is followed without some columns, or nothing.
 #[derive(Clone, Copy)]
-struct TableLine<'a>(Because<'a>);
+struct Reasons<'a>(&'a [Lacking]);
+
+impl<'a> fmt::Display for Reasons<'a> {
+    fn fmt<W: fmt::Write>(&self, f: &mut fmt::Formatter<W>) -> fmt::Result {
+        if self.0.is_empty() {
+            return Ok(());
+        }
+        f.write_str(" reason=\"")?;
+        for (place, lacking) in self.0.iter().enumerate() {
+            if place > 0 {
+                f.write_str(", ")?;
+            }
+            write!(f, "{lacking}")?;
+        }
+        f.write_str("\"")
+    }
+}
+
+// The line of a table that a peer defined.
+#[derive(Clone, Copy)]
+struct TableLine<'a> {
+    because: Because<'a>,
+    reasons: Reasons<'a>,
+}
 
 impl<'a> fmt::Display for TableLine<'a> {
     fn fmt<W: fmt::Write>(&self, f: &mut fmt::Formatter<W>) -> fmt::Result {
-        let because = self.0;
+        let because = self.because;
         let name = Value(because.name);
         match because.verdict {
-            Verdict::Followed => write!(f, "table={name} state=followed"),
-            Verdict::Pushed => write!(f, "table={name} state=pushed"),
-            Verdict::Period { .. } => {
-                write!(f, "table={name} state=followed reason=\"{because}\"")
+            Verdict::Followed => {
+                let reasons = self.reasons;
+                write!(f, "table={name} state=followed{reasons}")
             }
+            Verdict::Ignored => write!(f, "table={name} state=ignored"),
             _ => write!(f, "table={name} state=unknown reason=\"{because}\""),
         }
     }
 }
 
-/// Appends a line for each table that a peer's present or last connection defined.
+// Appends the line of a table that a peer defined. One that is pushed has its line behind all.
+fn append_table(
+    alloc: Global,
+    config: &Config,
+    table: &DefinedTable,
+    out: &mut Vec<u8>,
+) -> Result<(), NoMemory> {
+    if table.verdict == Verdict::Pushed {
+        return Ok(());
+    }
+    let because = Because {
+        config,
+        name: table.name.as_slice(),
+        verdict: table.verdict,
+    };
+    let reasons = Reasons(table.lacks.as_slice());
+    let line = TableLine { because, reasons };
+    let line = format!(in alloc; "{line}\n")?;
+    out.extend_from_slice(line.as_bytes())?;
+    Ok(())
+}
+
+// Appends a line for each pushed table, with how many of its keys a peer is told.
+fn append_pushed(
+    alloc: Global,
+    board: &Board,
+    config: &Config,
+    peer: usize,
+    out: &mut Vec<u8>,
+) -> Result<(), NoMemory> {
+    for (place, push) in config.pushes.as_slice().iter().enumerate() {
+        let name = Value(push.name.as_slice());
+        let told = board.told(peer, place);
+        let line = format!(in alloc; "table={name} state=pushed told={told}\n")?;
+        out.extend_from_slice(line.as_bytes())?;
+    }
+    Ok(())
+}
+
+/// Appends a line for each table that a peer's present or last connection defined, and then one for
+/// each pushed table.
 pub fn append_tables<R: Wait>(
     rt: &R,
     alloc: Global,
@@ -217,18 +285,11 @@ pub fn append_tables<R: Wait>(
     peer: usize,
     out: &mut Vec<u8>,
 ) -> Result<(), NoMemory> {
-    for place in 0..u64::MAX {
-        let Some((name, verdict)) = board.table(rt, peer, place as usize)? else {
-            return Ok(());
+    for place in 0..usize::MAX {
+        let Some(table) = board.table(rt, peer, place)? else {
+            break;
         };
-        let name = name.as_slice();
-        let line = TableLine(Because {
-            config,
-            name,
-            verdict,
-        });
-        let line = format!(in alloc; "{line}\n")?;
-        out.extend_from_slice(line.as_bytes())?;
+        append_table(alloc, config, &table, out)?;
     }
-    Ok(())
+    append_pushed(alloc, board, config, peer, out)
 }

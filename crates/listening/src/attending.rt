@@ -2,7 +2,7 @@
 
 use crate::patience::{Patience, Round, Signs};
 use crate::pulse::Pulse;
-use collector_log::{Alarm, Event, Journal};
+use journal::{Alarm, Event, Journal};
 use program::{Fault, Stuck};
 use sockets::Ticks;
 use std::sync::Wait;

@@ -3,7 +3,6 @@
 use agg_types::Config;
 use hub::{Hub, Naming};
 use serve::{Caller, Clock, Door, Doors, Faulted, Gate, Served, Source, serve_all};
-use std::alloc::Global;
 use std::io::Write;
 use std::sync::Wait;
 use std::sync::atomic::{AtomicU64, Ordering};
@@ -122,7 +121,7 @@ impl<
 pub fn serve_beside<
     J: Naming + Send + Sync,
     H: Wait + Drop + Send,
-    R: Threads + Wait + std::rt::Clock + Copy + Send + Sync,
+    R: Threads + Wait + AllocGlobal + std::rt::Clock + Copy + Send + Sync,
     S: Source + Send + Drop,
     W: Write + Send + Drop,
     C: Clock + Sync,
@@ -131,15 +130,7 @@ pub fn serve_beside<
     V: Visits + Sync,
     F: Visits + Sync,
     P: Visits + Sync,
->(
-    rt: &R,
-    alloc: Global,
-    doors: &D,
-    beside: &Beside<'_, '_, '_, V, F, P>,
-    clock: &C,
-    hub: &Hub<J, H>,
-    gate: &G,
-) {
+>(rt: &R, doors: &D, beside: &Beside<'_, '_, '_, V, F, P>, clock: &C, hub: &Hub<J, H>, gate: &G) {
     let doors = WithVisits { doors, beside };
-    let _ended = serve_all(rt, alloc, &doors, clock, hub, gate);
+    let _ended = serve_all(rt, rt.alloc(), &doors, clock, hub, gate);
 }

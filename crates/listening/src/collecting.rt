@@ -8,9 +8,10 @@ use crate::beside::{Beside, serve_beside};
 use crate::disk::Paths;
 use crate::pulse::{Beats, Pulse};
 use agg_types::{Config, MOST_SEATS, NoMemory};
-use collector_log::{Board, CollectorFacts, Event, Heading, Journal, Memory, Notes, Watch};
+use collector_log::{Board, CollectorFacts, Notes, Usage, Watch};
 use command_line::Endpoints;
 use hub::{Hub, Naming, Opening};
+use journal::{Event, Heading, Journal};
 use program::{Asked, Fault};
 use sockets::{Admins, Sockets, Ticks};
 use std::alloc::Global;
@@ -74,7 +75,7 @@ impl Stopped {
 pub fn collect<R, P, O>(rt: &R, paths: &P, asked: Asked, output: &mut O) -> Stopped
 where
     R: Threads + Wait + Copy + Send + Sync + 'static,
-    R: Eprint + AllocGlobal + Clock + RandomSource + Memory,
+    R: Eprint + AllocGlobal + Clock + RandomSource + Usage,
     R: Net<Listener = TcpListener, Stream = TcpStream>,
     P: Paths,
     O: Write,
@@ -221,14 +222,15 @@ fn serve<J: Naming + Send + Sync + 'static, R, P, O>(
 ) -> Fault
 where
     R: Threads + Wait + Copy + Send + Sync + 'static,
-    R: Eprint + AllocGlobal + Clock + RandomSource + Memory,
+    R: Eprint + AllocGlobal + Clock + RandomSource + Usage,
     R: Net<Listener = TcpListener, Stream = TcpStream>,
     P: Paths,
     O: Write,
     requires named { opening.of ≡ J.book }
     requires places { (0 < places) × (places ≤ 1000) }
 {
-    let Ok(work) = Work::<J, R>::new(rt, opening, places, endpoints, journal) else {
+    let commit = paths.commit();
+    let Ok(work) = Work::<J, R>::new(rt, opening, places, endpoints, journal, commit) else {
         return Fault::NoMemory;
     };
     let _kept = paths.take_standard();
@@ -249,6 +251,8 @@ struct Work<J: Naming, R: Wait + Drop> {
     hub: Hub<J, R>,
     board: Board,
     endpoints: Endpoints,
+    // from which the program was proved, where that is known
+    commit: Option<String>,
     journal: Arc<Journal, Global>,
     pulse: Arc<Pulse, Global>,
 }
@@ -256,7 +260,7 @@ struct Work<J: Naming, R: Wait + Drop> {
 impl<J: Naming + Send + Sync + 'static, R> Work<J, R>
 where
     R: Threads + Wait + Copy + Send + Sync + 'static,
-    R: Eprint + AllocGlobal + Clock + RandomSource + Memory,
+    R: Eprint + AllocGlobal + Clock + RandomSource + Usage,
 {
     // Nothing came yet.
     fn new(
@@ -265,12 +269,14 @@ where
         places: usize,
         endpoints: Endpoints,
         journal: &Arc<Journal, Global>,
+        commit: Option<String>,
     ) -> Result<Work<J, R>, NoMemory>
         requires named { opening.of ≡ J.book }
         requires places { (0 < places) × (places ≤ 1000) }
     {
         let hub = Hub::<J, R>::new(rt.alloc(), *rt, opening, places)?;
-        let board = Board::new(rt.alloc(), hub.config().peers.len())?;
+        let config = hub.config();
+        let board = Board::new(rt.alloc(), config.peers.len(), config.pushes.len())?;
         let Ok(pulse) = Arc::new(rt.alloc(), Pulse::new(rt.alloc())) else {
             return Err(NoMemory);
         };
@@ -279,6 +285,7 @@ where
             hub,
             board,
             endpoints,
+            commit,
             journal: Arc::try_clone(journal)?,
             pulse,
         })
@@ -307,11 +314,16 @@ where
             hub,
             board,
             endpoints,
+            commit,
             journal,
             pulse,
         } = self;
         let clock = Ticks { rt, start };
         let beating = Beating {
+            commit: match &commit {
+                None => "",
+                Some(commit) => commit.as_str(),
+            },
             board: &board,
             journal: &*journal,
             clock: &clock,
@@ -329,6 +341,8 @@ where
 /// What workers tell of themselves, and by which clock.
 #[derive(Drop)]
 struct Beating<'a, R> {
+    // nothing where it isn't known
+    commit: &'a str,
     board: &'a Board,
     journal: &'a Journal,
     clock: &'a Ticks<R>,
@@ -345,7 +359,7 @@ fn serve_at<J: Naming + Send + Sync, R>(
 )
 where
     R: Threads + Wait + Copy + Send + Sync + 'static,
-    R: Eprint + AllocGlobal + Clock + RandomSource + Memory,
+    R: Eprint + AllocGlobal + Clock + RandomSource + Usage,
 {
     let (board, journal) = (beating.board, beating.journal);
     let (clock, pulse) = (beating.clock, beating.pulse);
@@ -357,6 +371,8 @@ where
         clock,
         board,
         connections,
+        journal,
+        commit: beating.commit,
     };
     let hosts = endpoints.http_hosts.as_slice();
     let web = Web::new(*rt, rt.alloc(), &facts, web, hub, hosts);
@@ -385,6 +401,7 @@ where
         journal,
         clock,
         connections,
+        board,
     };
     let beats = Beats {
         rt: *rt,
@@ -396,5 +413,5 @@ where
         pulse,
     };
     let beside = Beside::new(&web, &watch, &beats);
-    serve_beside(rt, rt.alloc(), &doors, &beside, clock, hub, &notes);
+    serve_beside(rt, &doors, &beside, clock, hub, &notes);
 }

@@ -33,7 +33,13 @@ const JOURNAL: &str = "JOURNAL_STREAM";
 /// Where standard error is found.
 const STANDARD_ERROR: &str = "/proc/self/fd/2";
 
-/// Where sockets are made by their paths.
+/// How the stamp of a proved program is called, behind the program's name.
+const STAMP: &str = ".stamp";
+
+/// How the line of a stamp begins that names the commit.
+const COMMIT: &str = "commit: ";
+
+/// Where sockets are made by their paths, and what the machine's files say of the program.
 pub trait Paths {
     /// What keeps descriptors in use.
     type Kept: Drop;
@@ -48,6 +54,10 @@ pub trait Paths {
     /// Whether what is written to standard error goes to journald, which says so in the
     /// environment.
     fn logs_to_journald(&self) -> bool;
+
+    /// The commit from which the program was proved, as the stamp beside it says. None where
+    /// nothing says so.
+    fn commit(&self) -> Option<String>;
 }
 
 /// The files of the machine, by their paths.
@@ -209,6 +219,24 @@ fn names(text: &str, device: u64, inode: u64) -> bool {
     first.parse() == Ok(device) && second.parse() == Ok(inode)
 }
 
+// The commit that a stamp names, in hexadecimal digits.
+fn commit_in(alloc: Global, stamp: &str) -> Option<String> {
+    for line in stamp.lines() {
+        if let Some(commit) = line.strip_prefix(COMMIT) {
+            let is_commit = commit
+                .as_bytes()
+                .iter()
+                .all(|byte: &u8| byte.is_ascii_hexdigit());
+            return if is_commit {
+                String::from_str(alloc, commit).ok()
+            } else {
+                None
+            };
+        }
+    }
+    None
+}
+
 impl<R: fs::Files<File = File> + Net + Env + AllocGlobal> Paths for Disk<R> {
     type Kept = Standard;
 
@@ -236,5 +264,13 @@ impl<R: fs::Files<File = File> + Net + Env + AllocGlobal> Paths for Disk<R> {
             Err(_) => false,
             Ok(found) => names(stream.as_str(), found.dev(), found.ino()),
         }
+    }
+
+    fn commit(&self) -> Option<String> {
+        let program = env::current_exe(&self.rt).ok()?;
+        let path = program.as_path();
+        let stamp = format!(in self.rt.alloc(); "{}{STAMP}", path.to_string_lossy()).ok()?;
+        let text = fs::read_to_string(&self.rt, stamp.as_str()).ok()?;
+        commit_in(self.rt.alloc(), text.as_str())
     }
 }

@@ -1,8 +1,9 @@
 //! What the workers of a collector tell whoever watches that they go on.
 
 use crate::patience::Signs;
-use collector_log::{Alarm, Board, Event, Journal};
+use collector_log::Board;
 use hub::{Hub, Naming};
+use journal::{Alarm, Event, Journal};
 use program::Fault;
 use sockets::{Admins, Connections, HttpCall, Ticks};
 use std::alloc::Global;

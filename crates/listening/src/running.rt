@@ -2,7 +2,7 @@
 
 use crate::collecting::collect;
 use crate::disk::Paths;
-use collector_log::Memory;
+use collector_log::Usage;
 use program::{FAULT, Files, Prepared, arguments, prepare, tell, tell_no_words};
 use std::convert::AsStr;
 use std::env::Env;
@@ -20,7 +20,7 @@ use std::time::Clock;
 pub fn run<R, H, F, E>(rt: &R, host: &H, files: &F, errors: &mut E) -> u8
 where
     R: Threads + Wait + Copy + Send + Sync + 'static,
-    R: Eprint + AllocGlobal + Clock + RandomSource + Memory,
+    R: Eprint + AllocGlobal + Clock + RandomSource + Usage,
     R: Net<Listener = TcpListener, Stream = TcpStream>,
     H: Env + Input + Print + AllocGlobal,
     F: Files + Paths,
@@ -36,7 +36,7 @@ where
 fn try_run<R, H, F, E>(rt: &R, host: &H, files: &F, errors: &mut E) -> io::Result<u8>
 where
     R: Threads + Wait + Copy + Send + Sync + 'static,
-    R: Eprint + AllocGlobal + Clock + RandomSource + Memory,
+    R: Eprint + AllocGlobal + Clock + RandomSource + Usage,
     R: Net<Listener = TcpListener, Stream = TcpStream>,
     H: Env + Input + Print + AllocGlobal,
     F: Files + Paths,
@@ -65,7 +65,7 @@ pub fn run_words<R, S, F, I, O, E>(
 ) -> u8
 where
     R: Threads + Wait + Copy + Send + Sync + 'static,
-    R: Eprint + AllocGlobal + Clock + RandomSource + Memory,
+    R: Eprint + AllocGlobal + Clock + RandomSource + Usage,
     R: Net<Listener = TcpListener, Stream = TcpStream>,
     S: AsStr,
     F: Files + Paths,

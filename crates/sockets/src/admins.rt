@@ -114,7 +114,7 @@ impl Admins {
             return Answer::Nobody;
         };
         match listener.accept() {
-            Ok((stream, sender)) => Answer::Came((Stream::Tcp(stream), Some(sender))),
+            Ok((stream, sender)) => Answer::Came((Stream::tcp(stream), Some(sender))),
             Err(fault) => failed(fault),
         }
     }
@@ -125,7 +125,7 @@ impl Admins {
             return Answer::Nobody;
         };
         match socket.accept() {
-            Ok((stream, _)) => Answer::Came((Stream::Unix(stream), None)),
+            Ok((stream, _)) => Answer::Came((Stream::unix(stream), None)),
             Err(fault) => failed(fault),
         }
     }

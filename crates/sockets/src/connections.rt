@@ -1,5 +1,6 @@
 //! Who waits at the peers' door, and who sits.
 
+use crate::resets::Resets;
 use crate::streams::Stream;
 use crate::ticks::is_due;
 use crate::unknown::{Call, Unknown};
@@ -64,6 +65,8 @@ pub struct Unasked {
 pub struct Connections {
     lists: Mutex<Lists>,
     unknown: Unknown,
+    /// Those that peers reset, until that is told.
+    pub resets: Resets,
     // 1 once the peers' door is closed for good, and why
     closed: AtomicU64,
     fault: Mutex<Option<io::Error>>,
@@ -83,6 +86,7 @@ impl Connections {
                 told_at: None,
             }),
             unknown: Unknown::new(alloc),
+            resets: Resets::new(alloc),
             closed: AtomicU64::new(0),
             fault: Mutex::new(None),
         }
@@ -120,6 +124,23 @@ impl Connections {
         let guard = self.lists.lock(rt);
         let seated = guard.seated.get(&peer)?;
         Some(seated.address)
+    }
+
+    /// Whether the connection from this address, which sits for a peer, was reset by that one.
+    pub fn was_reset<R: Wait>(&self, rt: &R, peer: usize, address: SocketAddr) -> bool {
+        let guard = self.lists.lock(rt);
+        match guard.seated.get(&peer) {
+            None => false,
+            Some(seated) => seated.address == address && seated.stream.was_reset(),
+        }
+    }
+
+    /// The moment at which the connection that sits for a peer was last about to be read, in ms:
+    /// then its session has told what it had to tell.
+    pub fn last_round<R: Wait>(&self, rt: &R, peer: usize) -> Option<u64> {
+        let guard = self.lists.lock(rt);
+        let seated = guard.seated.get(&peer)?;
+        seated.stream.round.load(Ordering::SeqCst).checked_sub(1)
     }
 
     /// Closes the connection that has waited longest, if one waits.

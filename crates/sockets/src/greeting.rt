@@ -2,6 +2,7 @@
 
 use crate::streams::Stream;
 use agg_types::Config;
+use bytes::BytesMut;
 use session_core::{Session, SessionCause, Status};
 use std::alloc::Global;
 use std::io::ErrorKind;
@@ -29,13 +30,13 @@ pub enum Hello {
 /// The bytes that were read for a hello, and what it comes to.
 #[derive(Drop)]
 pub struct Greeting {
-    pub bytes: Vec<u8>,
+    pub bytes: BytesMut,
     pub hello: Hello,
 }
 
 /// Reads until a hello is accepted or refused, or its time is over.
 pub fn read_hello<R: Clock>(rt: &R, alloc: Global, config: &Config, stream: &Stream) -> Greeting {
-    let mut bytes = Vec::new(alloc);
+    let mut bytes = BytesMut::new(alloc);
     let mut session = Session::accept(alloc, true, 0);
     let hello = match Instant::now(rt) {
         Err(_) => Hello::Late,
@@ -51,7 +52,7 @@ fn read_on<R: Clock>(
     config: &Config,
     stream: &Stream,
     session: &mut Session,
-    bytes: &mut Vec<u8>,
+    bytes: &mut BytesMut,
 ) -> Hello {
     let mut piece = [0; PIECE];
     for _ in 0..u64::MAX {
@@ -91,7 +92,7 @@ fn time_left<R: Clock>(rt: &R, start: Instant) -> Option<Duration> {
 fn take_piece(
     config: &Config,
     session: &mut Session,
-    bytes: &mut Vec<u8>,
+    bytes: &mut BytesMut,
     piece: &[u8],
 ) -> Option<Hello> {
     if bytes.extend_from_slice(piece).is_err() {

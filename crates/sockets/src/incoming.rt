@@ -4,20 +4,25 @@ ghost use Rattle.std.specs.Prelude.{◌≡◌, ◌≤◌, length};
 ghost use Rattle.worker_frame.specs.Sources.{IsWithin};
 
 use crate::greeting::Hello;
-use crate::line_head::{Line, LineHead};
+use crate::line_head::{Line, LineHead, ends_command};
 use crate::pace::Pace;
 use crate::streams::Stream;
 use crate::ticks::Ticks;
 use crate::waiter::Waiter;
+use bytes::BytesMut;
 use serve::{Came, ReadFailed, Source};
 use std::alloc::Global;
 use std::io::ErrorKind;
 use std::net::SocketAddr;
+use std::sync::atomic::Ordering;
 use std::sync::{Arc, Wait};
 use std::time::Clock;
 
 /// How long a read has to take, in ms, to count as held up. It waits half a second at most.
 const HELD_UP: u64 = 1000;
+
+/// The room for what is read of an operator.
+pub(crate) const ROOM: usize = 4096;
 
 /// What a peer or an admin sends: first what was read before it was served.
 #[derive(Drop)]
@@ -35,12 +40,10 @@ pub struct Incoming<'a, R: Wait> {
     pub(crate) peer: Option<usize>,
     // The time that it has, of an admin's.
     pub(crate) pace: Option<Pace<'a, R>>,
-    // How its present line begins, of an admin's.
+    // How its present command begins, of an admin's.
     pub(crate) head: LineHead,
-    // What was read of it so far and not given, from a place on; an admin's room for that.
-    pub(crate) held: Vec<u8>,
-    pub(crate) taken: usize,
-    pub(crate) end: usize,
+    // What was read of it so far and not given. An admin's has the room for one read.
+    pub(crate) held: BytesMut,
     // Whether nothing is read behind that.
     pub(crate) is_over: bool,
     pub(crate) reads: u64,
@@ -54,61 +57,57 @@ pub struct Incoming<'a, R: Wait> {
 
 impl<'a, R: Wait> Incoming<'a, R> {
     // Has what was read for its hello be what it gives first.
-    pub(crate) fn begin_with(&mut self, held: Vec<u8>, hello: Hello)
+    pub(crate) fn begin_with(&mut self, held: BytesMut, hello: Hello)
         ensures { self.new.reads ≡ self.old.reads }
     {
         self.peer = match hello {
             Hello::Of(peer) => Some(peer),
             _ => None,
         };
-        self.end = held.len();
         self.held = held;
-        self.taken = 0;
         self.is_over = hello == Hello::Late;
     }
 
-    // Gives what is held, of an admin no more than to the end of a line: how many bytes.
+    // Gives what is held, of an admin no more than to the end of a command: how many bytes.
     fn give(&mut self, buffer: &mut [u8]) -> usize
         ensures reads { self.new.reads ≡ self.old.reads }
         ensures failed { self.new.failed ≡ self.old.failed }
         ensures within { result ≤ length buffer.new }
     {
-        let count = copy_piece(
-            self.held.as_slice(),
-            self.taken,
-            self.end,
-            self.pace.is_some(),
-            buffer,
-        );
+        let count = copy_piece(self.held.as_slice(), self.pace.is_some(), buffer);
         if count > 0 {
-            self.taken = self.taken.saturating_add(count);
+            self.held.advance(count);
             self.is_fed = true;
         }
         count
     }
 }
 
-// Copies bytes from one place to another to the front of a buffer, at most to the end of a line
-// where lines are wanted: how many.
-fn copy_piece(bytes: &[u8], from: usize, to: usize, lines: bool, buffer: &mut [u8]) -> usize
-    ensures { result ≤ length buffer.new }
+// Copies bytes to the front of a buffer, at most to the end of a command where commands are wanted:
+// how many.
+fn copy_piece(bytes: &[u8], commands: bool, buffer: &mut [u8]) -> usize
+    ensures within { result ≤ length buffer.new }
+    ensures there { result ≤ length bytes.now }
 {
-    let Some(left) = bytes.get(from..to) else {
-        return 0;
+    let piece = if commands {
+        first_command(bytes)
+    } else {
+        bytes
     };
-    let left = if lines { first_line(left) } else { left };
-    let count = left.len().min(buffer.len());
-    buffer[..count].copy_from_slice(&left[..count]);
+    let count = piece.len().min(buffer.len());
+    buffer[..count].copy_from_slice(&piece[..count]);
     count
 }
 
-// The bytes to the first LF, with it.
-fn first_line(bytes: &[u8]) -> &[u8] {
-    match bytes.iter().position(|byte: &u8| *byte == b'\n') {
+// The bytes to the first LF or `;`, with it.
+fn first_command(bytes: &[u8]) -> &[u8]
+    ensures { length result.now ≤ length bytes.now }
+{
+    match bytes.iter().position(|byte: &u8| ends_command(*byte)) {
         None => bytes,
         Some(at) => match bytes.get(..=at) {
             None => bytes,
-            Some(line) => line,
+            Some(command) => command,
         },
     }
 }
@@ -130,8 +129,8 @@ fn read_once(stream: &Stream, buffer: &mut [u8]) -> Result<Came, ReadFailed>
 }
 
 // Reads once from a socket. A read that gave nothing and was held up, as where the process was
-// stopped and goes on, is done again: it gives what came meanwhile. So a peer isn't taken for silent
-// whose bytes lie in the socket.
+// stopped and goes on, is done again: it gives what came meanwhile. So a peer isn't taken for
+// silent whose bytes lie in the socket.
 fn read_awake<R: Clock>(
     clock: &Ticks<R>,
     stream: &Stream,
@@ -140,6 +139,8 @@ fn read_awake<R: Clock>(
     ensures { IsWithin result buffer.new }
 {
     let began = clock.moment();
+    let round = began.saturating_add(1);
+    stream.round.store(round, Ordering::SeqCst);
     let came = read_once(stream, buffer)?;
     if came != Came::Nothing || clock.moment().saturating_sub(began) < HELD_UP {
         return Ok(came);
@@ -148,7 +149,7 @@ fn read_awake<R: Clock>(
 }
 
 impl<'a, R: Clock + Wait> Incoming<'a, R> {
-    // Reads once from the socket: of an admin into the room for that, and gives the first line.
+    // Reads once from the socket: of an admin into the room for that, and gives the first command.
     fn fetch(&mut self, buffer: &mut [u8]) -> Result<Came, ReadFailed>
         ensures reads { self.new.reads ≡ self.old.reads }
         ensures failed { self.new.failed ≡ self.old.failed }
@@ -157,12 +158,16 @@ impl<'a, R: Clock + Wait> Incoming<'a, R> {
         if self.pace.is_none() {
             return read_awake(self.clock, &self.stream, buffer);
         }
-        let came = read_awake(self.clock, &self.stream, self.held.as_mut_slice())?;
-        let Came::Bytes(count) = came else {
-            return Ok(came);
+        // There is room since the connection began, so this takes no memory.
+        if self.held.resize(ROOM, 0).is_err() {
+            return Err(ReadFailed);
+        }
+        let came = read_awake(self.clock, &self.stream, self.held.as_mut_slice());
+        let Ok(Came::Bytes(count)) = came else {
+            self.held.clear();
+            return came;
         };
-        self.taken = 0;
-        self.end = count;
+        self.held.truncate(count);
         match self.give(buffer) {
             0 => Ok(Came::Nothing),
             count => Ok(Came::Bytes(count)),
@@ -219,7 +224,7 @@ impl<'a, R: Clock + Wait> Incoming<'a, R> {
             return true;
         }
         pace.note_http(self.sender);
-        self.taken = self.end;
+        self.held.clear();
         self.is_over = true;
         false
     }

@@ -1,4 +1,5 @@
-//! What the present line of an operator is, by how it begins.
+//! What the present command of an operator is, by how it begins: a line, or a part of one that `;`
+//! ends or begins.
 
 use crate::http_line::begins_as_http;
 
@@ -6,7 +7,7 @@ use crate::http_line::begins_as_http;
 /// space.
 const HEAD: usize = 8;
 
-/// How lines begin that change the history: their answers take no look.
+/// How commands begin that change the history: their answers take no look.
 const CHANGES: [&[u8]; 3] = [b"add ", b"clear ", b"del "];
 
 /// What a line is.
@@ -31,7 +32,12 @@ fn line_of(head: &[u8]) -> Line {
     }
 }
 
-/// The first bytes of a line that comes in pieces.
+/// Whether a byte ends a command: each has its own time, and waits for a turn of its own.
+pub(crate) fn ends_command(byte: u8) -> bool {
+    byte == b'\n' || byte == b';'
+}
+
+/// The first bytes of a command that comes in pieces.
 #[derive(Drop)]
 pub struct LineHead {
     bytes: [u8; HEAD],
@@ -40,7 +46,7 @@ pub struct LineHead {
 }
 
 impl LineHead {
-    /// No byte of a line came.
+    /// No byte of a command came.
     pub fn new() -> LineHead {
         LineHead {
             bytes: [0; HEAD],
@@ -48,7 +54,7 @@ impl LineHead {
         }
     }
 
-    // Keeps the first bytes of what came of the line.
+    // Keeps the first bytes of what came of the command.
     fn keep(&mut self, piece: &[u8]) {
         let Some(room) = self.bytes.get_mut(self.count..) else {
             return;
@@ -58,11 +64,12 @@ impl LineHead {
         self.count = self.count.saturating_add(count);
     }
 
-    /// A piece of the line came, with no byte behind the line: what the line is, where the piece
-    /// ends it. Behind the end the next line begins.
+    /// A piece of the command came, with no byte behind it: what the command is, where the piece
+    /// ends it. Behind the end the next command begins.
     pub fn ends(&mut self, piece: &[u8]) -> Option<Line> {
         self.keep(piece);
-        if !piece.ends_with(b"\n") {
+        let last = piece.last()?;
+        if !ends_command(*last) {
             return None;
         }
         let line = line_of(self.bytes.get(..self.count).unwrap_or(b""));

@@ -10,8 +10,8 @@ use std::sync::atomic::{AtomicU64, Ordering};
 use std::sync::{Arc, Wait};
 use std::time::Clock;
 
-/// How long a line may take from its first byte to its LF, and how long nothing may come between
-/// lines, in ms.
+/// How long a command may take from its first byte to its end, and how long nothing may come
+/// between commands, in ms.
 const LINE_LIMIT: u64 = 10_000;
 
 /// How long an answer may take until the socket has it whole, in ms.
@@ -129,8 +129,8 @@ impl<'a, R: Clock + Wait> Pace<'a, R> {
         self.admins.note_http(&self.clock.rt, now, sender);
     }
 
-    /// A piece of a line came, which ends the line, of this kind, or doesn't. A question waits
-    /// until operators may look.
+    /// A piece of a command came, which ends the command, of this kind, or doesn't. A question
+    /// waits until operators may look.
     pub fn note_piece(&mut self, line: Option<Line>) {
         match line {
             Some(Line::Question) => {

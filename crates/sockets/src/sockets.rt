@@ -4,7 +4,7 @@ use crate::admins::Admins;
 use crate::connections::Connections;
 use crate::faults::{lacks, passes};
 use crate::greeting::{Greeting, Hello, read_hello};
-use crate::incoming::Incoming;
+use crate::incoming::{Incoming, ROOM};
 use crate::line_head::LineHead;
 use crate::outgoing::Outgoing;
 use crate::pace::{Answers, Pace, Times};
@@ -12,6 +12,7 @@ use crate::streams::Stream;
 use crate::ticks::Ticks;
 use crate::waiter::Waiter;
 use agg_types::Config;
+use bytes::BytesMut;
 use command_line::{Network, UnknownPeers, admits};
 use serve::{Caller, Door, Doors, Faulted, Served};
 use std::alloc::Global;
@@ -32,9 +33,6 @@ const REST: u64 = 100;
 
 /// The time before an accept is tried again for which a waiting connection was closed, in ms.
 const SHORT_REST: u64 = 1;
-
-/// The room for what is read of an operator.
-const ROOM: usize = 4096;
 
 /// A connection of either door.
 type Visitor<'a, R> = Caller<Incoming<'a, R>, Outgoing<'a, R>>;
@@ -84,9 +82,7 @@ impl<'a, R: Clock + Wait> Sockets<'a, R> {
             peer: None,
             pace: None,
             head: LineHead::new(),
-            held: Vec::new(self.alloc),
-            taken: 0,
-            end: 0,
+            held: BytesMut::new(self.alloc),
             is_over: false,
             reads: 0,
             failed: 0,
@@ -125,7 +121,7 @@ impl<'a, R: Clock + Wait> Sockets<'a, R> {
         };
         let caller = self.caller(stream, sender, None, Some(answers));
         let Caller { mut source, writer } = caller.ok()?;
-        source.held.resize(ROOM, 0).ok()?;
+        source.held.reserve(ROOM).ok()?;
         source.pace = Some(Pace::new(self.clock, self.admins, self.connections, mine));
         Some(Caller { source, writer })
     }
@@ -159,7 +155,7 @@ impl<'a, R: Clock + Wait> Doors<Incoming<'a, R>, Outgoing<'a, R>> for Sockets<'a
         for _ in 0..u64::MAX {
             match self.peers.accept() {
                 Ok((stream, sender)) => {
-                    if let Some(caller) = self.waiting(Stream::Tcp(stream), sender) {
+                    if let Some(caller) = self.waiting(Stream::tcp(stream), sender) {
                         return Some(caller);
                     }
                 }
@@ -202,7 +198,7 @@ impl<'a, R: Clock + Wait> Doors<Incoming<'a, R>, Outgoing<'a, R>> for Sockets<'a
                 let hello = bytes.as_slice();
                 self.connections.turn_away_unknown(rt, hello, sender);
             }
-            source.begin_with(Vec::new(self.alloc), Hello::Late);
+            source.begin_with(BytesMut::new(self.alloc), Hello::Late);
             return false;
         }
         source.begin_with(bytes, hello);

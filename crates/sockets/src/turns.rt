@@ -18,7 +18,8 @@ const NAP: u64 = 20;
 ///
 /// An answer is made from a copy of the book, which can't be changed meanwhile. So behind one that
 /// took long to make the next one, of whichever operator, is begun no sooner than as long after it
-/// and a quarter: all of them together hold a copy for less than half of the time.
+/// and a quarter, but at the latest 5 s after it. So all of them together hold a copy for less than
+/// half of the time, as long as no answer takes more than 4 s.
 #[derive(Drop)]
 pub(crate) struct Turns {
     free: Mutex<u64>,

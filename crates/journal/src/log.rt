@@ -1,19 +1,25 @@
 //! The log: what an operator reads on standard error, a line an event.
 //!
 //! A line is the time in UTC to the second, a level, the event in words, and what it is about as
-//! `key=value`; for journald the level's number stands in place of the time. A value that could be taken for anything else is quoted, and its bytes outside
-//! printable ASCII are escaped, so that a line break that a sender chose begins no line.
+//! `key=value`; for journald the level's number stands in place of the time. A value that could be
+//! taken for anything else is quoted, and its bytes outside printable ASCII are escaped, so that a
+//! line break that a sender chose begins no line.
 
 use crate::alarms::Alarm;
 use crate::heading::{Head, Heading};
-use crate::judging::Because;
 use agg_types::limits::LONGEST_NAME;
 use command_line::VERSION;
+use defined_tables::{Because, Columns, Lacking};
 use hub::PostFault;
+use logged_keys::{KeyLine, Value};
 use serve::Cause;
 use session_core::{SessionCause, Status};
+use sockets::{FoundBy, Reset};
 use std::fmt;
 use std::net::SocketAddr;
+
+/// What the system says of a connection that the other side reset.
+const RESET: &str = " error=\"Connection reset by peer\"";
 
 /// What happened.
 #[derive(Clone, Copy)]
@@ -29,20 +35,22 @@ pub enum Event<'a> {
     /// A peer's hello was accepted.
     PeerConnected {
         peer: &'a [u8],
+        address: Option<SocketAddr>,
     },
     /// A peer's session defined a table that isn't followed.
     TableUnfollowed {
         peer: &'a [u8],
         because: Because<'a>,
     },
-    /// A peer's session defined a table that is followed without one of its rates.
-    RateUnfollowed {
+    /// A peer's session defined a table that is followed without one of its configured columns.
+    ColumnUnfollowed {
         peer: &'a [u8],
-        because: Because<'a>,
+        table: &'a [u8],
+        lacking: Lacking,
     },
-    /// A table of a peer's session that is followed has columns that aren't known: of these types
-    /// of the peers protocol, a bit for each.
-    ColumnsSkipped {
+    /// A table of a peer's session that is followed has columns that aren't kept: of these types of
+    /// the peers protocol, a bit for each.
+    ColumnsNotKept {
         peer: &'a [u8],
         table: &'a [u8],
         types: u64,
@@ -55,6 +63,15 @@ pub enum Event<'a> {
         size: u64,
         dropped: u64,
     },
+    /// A peer's session taught more learned rows of a table than own ones, these updates of each,
+    /// and another peer holds many of them with the same numbers, whose session does the same.
+    RowsLearned {
+        peer: &'a [u8],
+        table: &'a [u8],
+        learned: u64,
+        own: u64,
+        other: &'a [u8],
+    },
     /// The connection of a peer is over, after so many updates.
     PeerGone {
         peer: &'a [u8],
@@ -62,15 +79,24 @@ pub enum Event<'a> {
         updates: u64,
         cause: Option<&'a Cause>,
     },
+    /// A peer reset its connection, as a read or a write found, and came back soon or didn't.
+    PeerReset {
+        peer: &'a [u8],
+        reset: Reset,
+        is_back: bool,
+    },
     /// The connection of a peer ended as a newer one of it sat down.
     PeerReplaced {
         peer: &'a [u8],
         address: Option<SocketAddr>,
         updates: u64,
     },
-    /// A connection is over of which no hello was accepted. Its sender chose the name.
+    /// A connection is over of which no hello was accepted. Its sender chose the name, and that by
+    /// which it called the collector, whose own name is the last one.
     StrangerGone {
         name: Option<&'a [u8]>,
+        called: Option<&'a [u8]>,
+        me: &'a [u8],
         address: Option<SocketAddr>,
         cause: Option<&'a Cause>,
     },
@@ -103,6 +129,8 @@ pub enum Event<'a> {
     },
     /// The collector is stuck and ends, or an operator's connection was HTTP's.
     Alarm(Alarm),
+    /// A key came into a logged filter's set or left it, or some did and aren't told.
+    Key(KeyLine<'a>),
 }
 
 impl<'a> Event<'a> {
@@ -112,11 +140,14 @@ impl<'a> Event<'a> {
             Event::Listening { .. } => "info listening",
             Event::PeerConnected { .. } => "info peer connected",
             Event::TableUnfollowed { .. } => "warn table not followed",
-            Event::RateUnfollowed { .. } => "warn rate not followed",
-            Event::ColumnsSkipped { .. } => "warn columns skipped",
+            Event::ColumnUnfollowed { .. } => "warn column not followed",
+            Event::ColumnsNotKept { .. } => "info columns not kept",
             Event::TableFull { .. } => "warn table full",
+            Event::RowsLearned { .. } => "warn rows learned from others",
             Event::PeerGone { cause: None, .. } => "info peer disconnected",
             Event::PeerGone { .. } => "warn peer ended",
+            Event::PeerReset { is_back: true, .. } => "info peer ended",
+            Event::PeerReset { .. } => "warn peer ended",
             Event::PeerReplaced { .. } => "info peer replaced",
             Event::StrangerGone { cause: None, .. } => "info connection closed without a hello",
             Event::StrangerGone { .. } => "warn connection ended",
@@ -127,6 +158,7 @@ impl<'a> Event<'a> {
             Event::AdminChanged { .. } => "info admin changed",
             Event::AdminTurnedAway { .. } => "warn admin turned away",
             Event::Alarm(alarm) => alarm.words(),
+            Event::Key(line) => line.words(),
         }
     }
 }
@@ -158,14 +190,24 @@ impl<'a> fmt::Display for Line<'a> {
                 let socket = Socket(admin_socket);
                 write!(f, " version={VERSION} peers={peers}{admin}{socket}{http}")
             }
-            Event::PeerConnected { peer } => write!(f, " peer={}", Value(peer)),
-            Event::TableUnfollowed { peer, because } | Event::RateUnfollowed { peer, because } => {
+            Event::PeerConnected { peer, address } => {
+                write!(f, " peer={}{}", Value(peer), From(address))
+            }
+            Event::TableUnfollowed { peer, because } => {
                 let (peer, table) = (Value(peer), Value(because.name));
                 write!(f, " peer={peer} table={table} reason=\"{because}\"")
             }
-            Event::ColumnsSkipped { peer, table, types } => {
+            Event::ColumnUnfollowed {
+                peer,
+                table,
+                lacking,
+            } => {
                 let (peer, table) = (Value(peer), Value(table));
-                write!(f, " peer={peer} table={table} types={}", Types(types))
+                write!(f, " peer={peer} table={table} reason=\"{lacking}\"")
+            }
+            Event::ColumnsNotKept { peer, table, types } => {
+                let (peer, table) = (Value(peer), Value(table));
+                write!(f, " peer={peer} table={table} columns={}", Columns(types))
             }
             Event::TableFull {
                 peer,
@@ -179,6 +221,17 @@ impl<'a> fmt::Display for Line<'a> {
                     " peer={peer} table={table} size={size} dropped={dropped}"
                 )
             }
+            Event::RowsLearned {
+                peer,
+                table,
+                learned,
+                own,
+                other,
+            } => {
+                let (peer, table, other) = (Value(peer), Value(table), Value(other));
+                write!(f, " peer={peer} table={table} learned={learned}")?;
+                write!(f, " own={own} other={other}")
+            }
             Event::PeerGone {
                 peer,
                 address,
@@ -188,6 +241,19 @@ impl<'a> fmt::Display for Line<'a> {
                 let from = From(address);
                 let why = Why(cause);
                 write!(f, " peer={}{from} updates={updates}{why}", Value(peer))
+            }
+            Event::PeerReset { peer, reset, .. } => {
+                let peer = Value(peer);
+                let (address, updates) = (reset.address, reset.updates);
+                let cause = match reset.found_by {
+                    FoundBy::Read => Cause::Read,
+                    FoundBy::Write => Cause::Write,
+                };
+                let why = Why(Some(&cause));
+                write!(
+                    f,
+                    " peer={peer} address={address} updates={updates}{why}{RESET}"
+                )
             }
             Event::PeerReplaced {
                 peer,
@@ -201,12 +267,21 @@ impl<'a> fmt::Display for Line<'a> {
             ),
             Event::StrangerGone {
                 name,
+                called,
+                me,
                 address,
                 cause,
             } => {
                 write!(f, "{}{}{}", Named(name), From(address), Why(cause))?;
-                match name {
-                    Some(name) if is_unknown(cause) => write!(f, "{}", NoPeer(name)),
+                match (refusal(cause), name, called) {
+                    (Some(Status::RemoteName), Some(name), _) => {
+                        let name = First(name);
+                        write!(f, " reason=\"no peer {name} is configured\"")
+                    }
+                    (Some(Status::LocalName), _, Some(called)) => {
+                        let (called, me) = (First(called), First(me));
+                        write!(f, " reason=\"called {called}, not {me}\"")
+                    }
                     _ => Ok(()),
                 }
             }
@@ -229,50 +304,8 @@ impl<'a> fmt::Display for Line<'a> {
                 write!(f, "{} reason=\"no seat, or out of memory\"", From(address))
             }
             Event::Alarm(alarm) => write!(f, "{alarm}"),
+            Event::Key(line) => write!(f, "{line}"),
         }
-    }
-}
-
-/// A value, quoted where that is needed.
-#[derive(Clone, Copy)]
-pub(crate) struct Value<'a>(pub &'a [u8]);
-
-impl<'a> Value<'a> {
-    fn is_plain(&self) -> bool {
-        let Value(bytes) = *self;
-        let is_plain = |byte: &u8| byte.is_ascii_graphic() && !b"\"'\\=".contains(byte);
-        !bytes.is_empty() && bytes.iter().all(is_plain)
-    }
-}
-
-impl<'a> fmt::Display for Value<'a> {
-    fn fmt<W: fmt::Write>(&self, f: &mut fmt::Formatter<W>) -> fmt::Result {
-        let text = self.0.escape_ascii();
-        if self.is_plain() {
-            write!(f, "{text}")
-        } else {
-            write!(f, "\"{text}\"")
-        }
-    }
-}
-
-// The numbers of types, a bit for each.
-#[derive(Clone, Copy)]
-struct Types(u64);
-
-impl fmt::Display for Types {
-    fn fmt<W: fmt::Write>(&self, f: &mut fmt::Formatter<W>) -> fmt::Result {
-        let mut is_first = true;
-        for id in 0..64u32 {
-            if (self.0 >> id) & 1 == 1 {
-                if !is_first {
-                    f.write_str(",")?;
-                }
-                write!(f, "{id}")?;
-                is_first = false;
-            }
-        }
-        Ok(())
     }
 }
 
@@ -289,23 +322,22 @@ impl<'a> fmt::Display for Named<'a> {
     }
 }
 
-// Whether a hello was refused since its sender isn't configured.
-fn is_unknown(cause: Option<&Cause>) -> bool {
+// With which status a hello was refused, if it was.
+fn refusal(cause: Option<&Cause>) -> Option<Status> {
     match cause {
-        Some(Cause::Session(cause)) => *cause == SessionCause::Refused(Status::RemoteName),
-        _ => false,
+        Some(Cause::Session(SessionCause::Refused(status))) => Some(*status),
+        _ => None,
     }
 }
 
-// Why a hello with this name is refused: the first bytes of the name, escaped.
+// The first bytes of a name that a hello gave, escaped.
 #[derive(Clone, Copy)]
-struct NoPeer<'a>(&'a [u8]);
+struct First<'a>(&'a [u8]);
 
-impl<'a> fmt::Display for NoPeer<'a> {
+impl<'a> fmt::Display for First<'a> {
     fn fmt<W: fmt::Write>(&self, f: &mut fmt::Formatter<W>) -> fmt::Result {
         let first = self.0.get(..LONGEST_NAME).unwrap_or(self.0);
-        let name = first.escape_ascii();
-        write!(f, " reason=\"no peer {name} is configured\"")
+        write!(f, "{}", first.escape_ascii())
     }
 }
 
@@ -356,12 +388,9 @@ impl<'a> fmt::Display for Why<'a> {
     fn fmt<W: fmt::Write>(&self, f: &mut fmt::Formatter<W>) -> fmt::Result {
         match self.0 {
             None => Ok(()),
-            Some(Cause::Read) => write!(f, " cause=\"read failed\""),
-            Some(Cause::Write) => write!(f, " cause=\"write failed\""),
-            Some(Cause::Session(cause)) => write!(f, " cause=\"{cause}\""),
             Some(Cause::Post(PostFault::NoMemory(_))) => write!(f, " cause=\"out of memory\""),
             Some(Cause::Post(_)) => write!(f, " cause=\"post refused\""),
-            Some(Cause::Look) => write!(f, " cause=\"no copy to read\""),
+            Some(cause) => write!(f, " cause=\"{cause}\""),
         }
     }
 }

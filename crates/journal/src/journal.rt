@@ -24,6 +24,8 @@ struct Waiting {
     lines: VecDeque<String>,
     // how many lines didn't fit or weren't written, until that is told
     lost: u64,
+    // the same since the collector began
+    lost_in_all: u64,
     told_at: Option<Instant>,
     // whether a line is being written
     is_writing: bool,
@@ -38,6 +40,12 @@ impl Waiting {
             return false;
         }
         self.lines.push_back(line).is_ok()
+    }
+
+    // So many lines aren't written.
+    fn lose(&mut self, count: u64) {
+        self.lost = self.lost.saturating_add(count);
+        self.lost_in_all = self.lost_in_all.saturating_add(count);
     }
 }
 
@@ -82,6 +90,7 @@ impl Journal {
             waiting: Mutex::new(Waiting {
                 lines: VecDeque::new(alloc),
                 lost: 0,
+                lost_in_all: 0,
                 told_at: None,
                 is_writing: false,
                 is_over: false,
@@ -134,7 +143,7 @@ impl Journal {
             Err(_fault) => false,
         };
         if !is_kept {
-            waiting.lost = waiting.lost.saturating_add(count);
+            waiting.lose(count);
         }
     }
 
@@ -160,11 +169,17 @@ impl Journal {
         Some(count)
     }
 
-    // So many lines weren't written.
-    fn lose<R: Wait>(&self, rt: &R, count: u64) {
+    /// So many lines weren't written.
+    pub fn lose<R: Wait>(&self, rt: &R, count: u64) {
         let mut guard = self.waiting.lock(rt);
         let waiting = &mut *guard;
-        waiting.lost = waiting.lost.saturating_add(count);
+        waiting.lose(count);
+    }
+
+    /// How many lines were lost since the collector began.
+    pub fn lost_lines<R: Wait>(&self, rt: &R) -> u64 {
+        let guard = self.waiting.lock(rt);
+        guard.lost_in_all
     }
 
     // Tells how many lines were lost, where that is to be told now.

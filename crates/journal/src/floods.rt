@@ -2,23 +2,25 @@
 
 use crate::alarms::Alarm;
 use crate::heading::{Head, Heading};
-use crate::log::{Event, Value};
+use crate::log::Event;
+use logged_keys::Value;
 use std::alloc::Global;
 use std::net::{IpAddr, Ipv6Addr, SocketAddr};
 use std::{fmt, str};
 use throttle::{Counted, Throttle};
 
 /// The events that strangers or one peer can repeat, by what their lines begin with.
-const REPEATED: [&str; 10] = [
+const REPEATED: [&str; 11] = [
     "warn connection ended",
     "info connection closed without a hello",
     "info peer connected",
     "info peer disconnected",
+    "info peer ended",
     "warn peer ended",
     "info peer replaced",
     "warn table not followed",
-    "warn rate not followed",
-    "warn columns skipped",
+    "warn column not followed",
+    "info columns not kept",
     "warn http at the admin address",
 ];
 
@@ -69,7 +71,7 @@ impl<'a> fmt::Display for CountLine<'a> {
 #[derive(Drop)]
 pub(crate) struct Floods {
     alloc: Global,
-    throttles: [Throttle; 10],
+    throttles: [Throttle; 11],
 }
 
 impl Floods {
@@ -78,6 +80,7 @@ impl Floods {
         Floods {
             alloc,
             throttles: [
+                Throttle::new(alloc),
                 Throttle::new(alloc),
                 Throttle::new(alloc),
                 Throttle::new(alloc),
@@ -132,11 +135,12 @@ struct Source<'a>(Event<'a>);
 impl<'a> fmt::Display for Source<'a> {
     fn fmt<W: fmt::Write>(&self, f: &mut fmt::Formatter<W>) -> fmt::Result {
         match self.0 {
-            Event::PeerConnected { peer }
+            Event::PeerConnected { peer, .. }
             | Event::TableUnfollowed { peer, .. }
-            | Event::RateUnfollowed { peer, .. }
-            | Event::ColumnsSkipped { peer, .. }
+            | Event::ColumnUnfollowed { peer, .. }
+            | Event::ColumnsNotKept { peer, .. }
             | Event::PeerGone { peer, .. }
+            | Event::PeerReset { peer, .. }
             | Event::PeerReplaced { peer, .. } => write!(f, " peer={}", Value(peer)),
             Event::StrangerGone {
                 address: Some(address),
