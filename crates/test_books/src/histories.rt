@@ -2,8 +2,8 @@
 //!
 //! What it answers at each moment is printed: how many keys have a row, how many the filter holds
 //! and when that changes next, each summed row, and the ranked list. Then what is taken and what is
-//! dropped where all rows have a bound. Then ranked lists of values that are alike, fallen, steep or
-//! level, and how many keys each looked at.
+//! dropped where all rows have a bound. Then ranked lists of values that are alike, fallen, steep
+//! or level, and how many keys each looked at.
 mod bound;
 mod fleet;
 mod lists;

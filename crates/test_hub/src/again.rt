@@ -1,20 +1,20 @@
 //! Calls of a hub that are made once more where an allocation failed.
 //!
 //! What they leave is looked at first: after NoMemory nothing was stored, and what is pending isn't
-//! shown yet.
+//! shown yet. A note tells which of the two was met.
 
 ghost use Rattle.std.specs.Prelude.{◌≡◌, IfOk, IfSome};
 
 use crate::shown::seen;
-use agg_types::{What, Whats};
+use agg_types::Whats;
 use anyhow::{Result, anyhow, ensure};
 use hub::{Hub, Lens, Naming, Pass, PostFault, Receipt};
 use std::alloc::Global;
 use std::sync::Wait;
-use test_hub_calls::{leave_once, post_once};
+use test_hub_calls::{flush, leave_once, post_again};
 
 /// Posts a batch, and shows what is pending of it by an empty batch.
-pub fn post<J: Naming, H: Wait + Drop, W: Wait>(
+pub fn post<J: Naming, H: Wait + Drop, W: Wait + Print>(
     rt: &W,
     alloc: Global,
     hub: &Hub<J, H>,
@@ -34,11 +34,13 @@ pub fn post<J: Naming, H: Wait + Drop, W: Wait>(
         Err(PostFault::NoMemory(back)) => {
             ensure!(back.len() == count, "a part of the batch was lost");
             before.stands(lens)?;
-            post_once(rt, hub, pass, back)
+            println!(rt; "again: a post: NoMemory")?;
+            post_again(rt, alloc, hub, pass, back)
         }
         Err(PostFault::Pending) => {
             before.stands(lens)?;
-            post_once(rt, hub, pass, Whats::new(alloc))
+            println!(rt; "again: a post: Pending")?;
+            flush(rt, alloc, hub, pass)
         }
         Err(_) => Err(anyhow!("refused")),
     }

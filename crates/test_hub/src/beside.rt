@@ -1,20 +1,24 @@
 //! An append beside a publication that waits for a look.
 
-ghost use Rattle.std.specs.Prelude.{◌≡◌};
+ghost use Rattle.std.specs.Prelude.{◌≡◌, true};
 
 use agg_types::Whats;
 use anyhow::{Result, anyhow};
-use hub::{Hub, Naming, Opening, Pass};
+use hub::{Hub, Look, Naming, Opening, Pass};
 use std::alloc::Global;
 use std::sync::Wait;
 use std::sync::atomic::{AtomicBool, Ordering};
 use std::thread;
 use std::thread::Threads;
 use std::time::{Clock, Duration, Instant};
-use test_hub_calls::{batch, lens, post, seen, session, sit};
+use test_hub_calls::{batch, first_sum, lens, post, seen, session, sit};
+use test_support::address;
 
 /// How long the look lasts once the other thread posts, in ms.
 const LOOK: u64 = 100;
+
+/// How often it is read then.
+const TURNS: usize = 1000;
 
 /// What two threads over a hub tell each other.
 #[derive(Drop)]
@@ -27,6 +31,8 @@ struct Both<'a, J: Naming, H: Wait + Drop> {
     posting: AtomicBool,
     // Whether all was appended inside the look.
     appended: AtomicBool,
+    // Whether the look showed the same all the while.
+    stood: AtomicBool,
 }
 
 fn wait_for<W: Wait>(rt: &W, flag: &AtomicBool) {
@@ -50,6 +56,20 @@ fn linger<W: Wait + Clock>(rt: &W) -> Result<()> {
     Ok(())
 }
 
+// Whether a look shows the same sum at each of many turns.
+fn stands(alloc: Global, look: &Look<'_>) -> Result<bool>
+    requires { look.now.lens.now.inside ≡ true }
+{
+    let key = address(alloc, 0)?;
+    let first = first_sum(look.book().summed(0, &key));
+    let mut same = true;
+    for _ in 0..TURNS {
+        same = same && first_sum(look.book().summed(0, &key)) == first;
+        thread::yield_now();
+    }
+    Ok(same)
+}
+
 // Three sessions of a peer, one after the other. The second publication, if not the first, waits
 // for the look.
 fn speak<J: Naming, H: Wait + Drop, W: Wait>(rt: &W, both: &Both<'_, J, H>) {
@@ -60,8 +80,8 @@ fn speak<J: Naming, H: Wait + Drop, W: Wait>(rt: &W, both: &Both<'_, J, H>) {
     }
 }
 
-// Appends a batch.
-fn append<J: Naming, H: Wait + Drop, W: Wait>(
+/// Appends a batch; whether it stands in the history.
+pub fn append<J: Naming, H: Wait + Drop, W: Wait>(
     rt: &W,
     hub: &Hub<J, H>,
     pass: &mut Pass,
@@ -88,6 +108,8 @@ fn look_on<J: Naming, H: Wait + Drop, W: Wait + Clock>(
     };
     both.inside.store(true, Ordering::SeqCst);
     wait_for(rt, &both.posting);
+    both.stood
+        .store(stands(both.alloc, &look)?, Ordering::SeqCst);
     linger(rt)?;
     let appended = append(rt, both.hub, &mut pass, batch(both.alloc, 0, 5)?);
     drop(look);
@@ -114,6 +136,7 @@ fn row<
         inside: AtomicBool::new(false),
         posting: AtomicBool::new(false),
         appended: AtomicBool::new(false),
+        stood: AtomicBool::new(false),
     };
     let all = &both;
     thread::scope(thread::scope_env(), rt, |scope| {
@@ -123,7 +146,8 @@ fn row<
     });
     let appended = both.appended.load(Ordering::SeqCst);
     let sum = seen(alloc, &mut lens(rt, hub)?)?;
-    println!(rt; "appended inside a look: {appended}, with a sum of {sum}")?;
+    let stood = both.stood.load(Ordering::SeqCst);
+    println!(rt; "appended inside a look: {appended}, with a sum of {sum}; it stood: {stood}")?;
     Ok(())
 }
 

@@ -17,18 +17,17 @@ const EARLY: [&[u8]; 1] = [b"early"];
 
 const LATE: [&[u8]; 1] = [b"late"];
 
-/// The fleet of two proxies, of which a filter's set is pushed.
-const PUSHING: &[u8] = b"name agg
+/// The fleet of two proxies, with a filter. Nothing is pushed: changes are kept of every filter.
+const FILTERING: &[u8] = b"name agg
 peer lb1
 peer lb2
 table t type string len 64 size 1000 store gpc0
 filter p t data.gpc0 gt 9
-push p
 ";
 
 /// That fleet, just opened.
-pub fn pushing(alloc: Global) -> Result<Opening> {
-    let config = config(alloc, PUSHING)?;
+pub fn filtering(alloc: Global) -> Result<Opening> {
+    let config = config(alloc, FILTERING)?;
     Ok(Opening::new(alloc, config, 0)?)
 }
 

@@ -7,6 +7,7 @@ use agg_types::{
 use anyhow::Result;
 use hub::Opening;
 use std::alloc::Global;
+use test_hub_calls::TRIES;
 use test_support::{alone, config};
 
 /// The batches of a run, each made when it is posted.
@@ -92,11 +93,13 @@ impl Batch {
         }
     }
 
-    /// Its events, made once more where an allocation failed.
+    /// Its events, made anew where an allocation failed.
     pub fn made(self, alloc: Global) -> Result<Whats, NoMemory> {
-        match self.make(alloc) {
-            Err(NoMemory) => self.make(alloc),
-            made => made,
+        for _ in 0..TRIES {
+            if let Ok(made) = self.make(alloc) {
+                return Ok(made);
+            }
         }
+        self.make(alloc)
     }
 }

@@ -10,7 +10,7 @@ use anyhow::{Context, Result};
 use hub::{Hub, Lens, Naming, Opening, Pass, Receipt};
 use std::alloc::Global;
 use std::sync::Wait;
-use test_hub_calls::sit;
+use test_hub_calls::{TRIES, sit};
 
 /// Keys that are as long as a key may be that takes no memory of its own, and longer ones.
 const KEYS: [&[u8]; 3] = [
@@ -133,10 +133,12 @@ pub fn opened<J: Naming, R: Print + Wait>(rt: &R, alloc: Global, opening: Openin
     }
 }
 
-/// The fleet, opened once more where an allocation failed.
+/// The fleet, opened by a further call where an allocation failed.
 pub fn fleet_opened(alloc: Global) -> Result<Opening> {
-    match opening(alloc) {
-        Err(_) => opening(alloc),
-        opened => opened,
+    for _ in 0..TRIES {
+        if let Ok(opening) = opening(alloc) {
+            return Ok(opening);
+        }
     }
+    opening(alloc)
 }

@@ -25,24 +25,21 @@ pub fn batch(alloc: Global, peer: usize, count: u64) -> Result<Whats> {
     Ok(whats)
 }
 
-/// Takes a seat, at the second call where the first one had no memory.
+/// How often a call is made at most, where an allocation failed.
+pub const TRIES: u32 = 4;
+
+/// Takes a seat, by a further call where one had no memory.
 pub fn sit<J: Naming, H: Wait + Drop, W: Wait>(rt: &W, hub: &Hub<J, H>) -> Result<Pass>
     ensures { IfOk result (λ p. p.seen.of ≡ hub.now.of) }
 {
-    match hub.seat(rt) {
-        Ok(pass) => Ok(pass),
-        Err(SeatFault::NoMemory) => sit_again(rt, hub),
-        Err(SeatFault::NoSeat) => Err(anyhow!("no seat")),
+    for _ in 0..TRIES {
+        match hub.seat(rt) {
+            Ok(pass) => return Ok(pass),
+            Err(SeatFault::NoMemory) => continue,
+            Err(SeatFault::NoSeat) => return Err(anyhow!("no seat")),
+        }
     }
-}
-
-fn sit_again<J: Naming, H: Wait + Drop, W: Wait>(rt: &W, hub: &Hub<J, H>) -> Result<Pass>
-    ensures { IfOk result (λ p. p.seen.of ≡ hub.now.of) }
-{
-    match hub.seat(rt) {
-        Ok(pass) => Ok(pass),
-        Err(_) => Err(anyhow!("no seat again")),
-    }
+    Err(anyhow!("no seat again"))
 }
 
 /// Makes a lens.
@@ -70,14 +67,39 @@ pub fn post<J: Naming, H: Wait + Drop, W: Wait>(
     ensure!(hub.allows(&whats), "it does not fit");
     match hub.post(rt, pass, whats) {
         Ok(receipt) => Ok(receipt),
-        Err(PostFault::NoMemory(back)) => post_once(rt, hub, pass, back),
-        Err(PostFault::Pending) => post_once(rt, hub, pass, Whats::new(alloc)),
+        Err(PostFault::NoMemory(back)) => post_again(rt, alloc, hub, pass, back),
+        Err(PostFault::Pending) => flush(rt, alloc, hub, pass),
         Err(_) => Err(anyhow!("refused")),
     }
 }
 
+/// Posts a batch that came back without memory, behind an empty one: that one has the hub take up
+/// what it gave up where an allocation failed.
+pub fn post_again<J: Naming, H: Wait + Drop, W: Wait>(
+    rt: &W,
+    alloc: Global,
+    hub: &Hub<J, H>,
+    pass: &mut Pass,
+    whats: Whats,
+) -> Result<Receipt>
+    requires { pass.old.seen.of ≡ hub.now.of }
+    ensures { IfOk result (λ r. (r.of ≡ hub.now.of) × (pass.new.seen.of ≡ hub.now.of)) }
+{
+    flush(rt, alloc, hub, pass)?;
+    ensure!(hub.allows(&whats), "it does not fit");
+    match hub.post(rt, pass, whats) {
+        Ok(receipt) => Ok(receipt),
+        Err(PostFault::NoMemory(back)) => {
+            flush(rt, alloc, hub, pass)?;
+            post_once(rt, hub, pass, back)
+        }
+        Err(PostFault::Pending) => flush(rt, alloc, hub, pass),
+        Err(_) => Err(anyhow!("refused again")),
+    }
+}
+
 /// Posts a batch, which isn't refused.
-pub fn post_once<J: Naming, H: Wait + Drop, W: Wait>(
+fn post_once<J: Naming, H: Wait + Drop, W: Wait>(
     rt: &W,
     hub: &Hub<J, H>,
     pass: &mut Pass,
@@ -91,6 +113,29 @@ pub fn post_once<J: Naming, H: Wait + Drop, W: Wait>(
         Ok(receipt) => Ok(receipt),
         Err(_) => Err(anyhow!("refused once more")),
     }
+}
+
+/// Shows all that was posted, by an empty batch.
+pub fn flush<J: Naming, H: Wait + Drop, W: Wait>(
+    rt: &W,
+    alloc: Global,
+    hub: &Hub<J, H>,
+    pass: &mut Pass,
+) -> Result<Receipt>
+    requires { pass.old.seen.of ≡ hub.now.of }
+    ensures { IfOk result (λ r. (r.of ≡ hub.now.of) × (pass.new.seen.of ≡ hub.now.of)) }
+{
+    for turn in 0..TRIES {
+        let whats = Whats::new(alloc);
+        ensure!(hub.allows(&whats), "it does not fit");
+        match hub.post(rt, pass, whats) {
+            Ok(receipt) => return Ok(receipt),
+            Err(PostFault::NoMemory(_)) => continue,
+            Err(PostFault::Pending) => continue,
+            Err(_) => return Err(anyhow!("an empty batch is refused")),
+        }
+    }
+    Err(anyhow!("nothing is shown"))
 }
 
 /// A seat leaves, at the second call where the first one had no memory. None where that is pending.

@@ -1,26 +1,29 @@
 //! Lines of the log.
 
 use crate::scene::{Few, Still};
-use crate::{full, status};
+use crate::{full, learned, status};
 use agg_types::Whats;
-use collector_log::{Board, Event, Heading, Journal, Notes};
+use collector_log::{Board, Notes};
 use hub::PostFault;
+use journal::{Event, Heading, Journal};
 use serve::{Cause, Gate, Gone, News, Place};
 use session_core::{SessionCause, Status};
-use sockets::{Connections, Ticks};
+use sockets::{Connections, FoundBy, Reset, Ticks};
 use std::io;
 use std::net::{Ipv4Addr, Ipv6Addr, SocketAddr, SocketAddrV4, SocketAddrV6};
 use std::sync::Wait;
 use std::time::{Clock, Instant};
 
-/// Three peers, so that a line with another's name shows, and one name is quoted; and two tables.
+/// Three peers, so that a line with another's name shows, and one name is quoted; three tables, a
+/// pushed filter, and a table that isn't followed on purpose.
 const CONFIGURATION: &[u8] = b"name agg\npeer lb1\npeer lb2\npeer a=b\n\
 table clients type ip size 100 store gpc0,http_req_rate(10000)\n\
 table names type binary len 8 size 100 store gpc0\n\
-filter hot clients data.gpc0 ge 1\npush hot\n";
+table glitches type ip size 100 store glitch_cnt,glitch_rate(1000)\n\
+filter hot clients data.gpc0 ge 1\npush hot\nignore cache\n";
 
 /// 2026-11-24 at 09:45:12 in UTC.
-const MORNING: u64 = 1_795_513_512;
+pub const MORNING: u64 = 1_795_513_512;
 
 /// A name longer than any that may be configured.
 const LONG: [u8; 130] = [b'x'; 130];
@@ -89,6 +92,33 @@ fn show_replaced<R: Print + Wait>(notes: &Notes<'_, Still<R>>) {
     notes.journal.note(&notes.rt, replaced);
 }
 
+/// That a peer's hello was accepted, of a connection whose address isn't known.
+fn connected(peer: &[u8]) -> Event<'_> {
+    Event::PeerConnected {
+        peer,
+        address: None,
+    }
+}
+
+/// A peer that reset its connection, and came back, or didn't.
+fn show_resets<R: Print + Wait>(notes: &Notes<'_, Still<R>>) {
+    for (found_by, is_back) in [(FoundBy::Read, true), (FoundBy::Write, false)] {
+        let reset = Reset {
+            peer: 0,
+            address: SocketAddr::V4(address(41234)),
+            updates: 812,
+            found_by,
+            at: 0,
+        };
+        let event = Event::PeerReset {
+            peer: b"lb1",
+            reset,
+            is_back,
+        };
+        notes.journal.note(&notes.rt, event);
+    }
+}
+
 /// Commands that changed something, from an address and from none.
 fn show_changes<R: Print + Wait>(notes: &Notes<'_, Still<R>>) {
     for (sender, command) in [
@@ -126,23 +156,26 @@ fn show_lines<R: Print + Wait + Copy + AllocGlobal>(
 ) -> io::Result<()> {
     show_doors(notes.journal, &notes.rt);
     show_replaced(notes);
-    notes.tell(SESSION, News::Came(0));
+    notes.tell(status::SESSION, News::Came(0));
     notes.tell(SESSION, News::Came(1));
     status::define(rt, notes)?;
     show_ends(rt, notes);
+    show_resets(notes);
     show_changes(notes);
     show_turned_away(rt, notes);
+    let read = Cause::Read;
     for name in NAMES {
-        show_stranger(notes, Some(name), Some(&Cause::Read));
+        show_stranger(notes, Some(name), Some(&read));
     }
     show_unknown(notes.connections, notes);
     notes.journal.write_out(&notes.rt);
     show_moments(rt);
     show_levels(rt);
-    show_no_peers(rt);
+    show_refused(rt);
     show_crowd(rt);
     show_floods(rt);
-    full::show(rt, notes)
+    full::show(rt, notes)?;
+    learned::show(notes)
 }
 
 /// Prints the lines of all that is told, and what operators are told.
@@ -151,7 +184,7 @@ pub fn show<R: Print + Wait + Copy + AllocGlobal>(rt: &R) -> io::Result<()> {
     let Ok(config) = agg_config::read(rt.alloc(), CONFIGURATION) else {
         return println!(rt; "no configuration");
     };
-    let Ok(board) = Board::new(rt.alloc(), 3) else {
+    let Ok(board) = Board::new(rt.alloc(), 3, 1) else {
         return println!(rt; "no board");
     };
     let journal = Journal::new(rt.alloc(), Heading::Time);
@@ -227,6 +260,7 @@ fn show_end<R: Print + Wait>(notes: &Notes<'_, Still<R>>, cause: Option<Cause>) 
         sender: sender(),
         peer: Some(1),
         name: None,
+        called: None,
         updates: 812,
         cause: cause.as_ref(),
     };
@@ -234,15 +268,16 @@ fn show_end<R: Print + Wait>(notes: &Notes<'_, Still<R>>, cause: Option<Cause>) 
     show_stranger(notes, None, cause.as_ref());
 }
 
-fn show_stranger<R: Print + Wait>(
+fn show_stranger<'a, R: Print + Wait>(
     notes: &Notes<'_, Still<R>>,
-    name: Option<&[u8]>,
-    cause: Option<&Cause>,
+    name: Option<&'a [u8]>,
+    cause: Option<&'a Cause>,
 ) {
     let gone = Gone {
         sender: sender(),
         peer: None,
         name,
+        called: None,
         updates: 0,
         cause,
     };
@@ -275,7 +310,7 @@ fn show_floods<R: Print + Wait + Copy + AllocGlobal>(rt: &R) {
         seconds: Some(MORNING),
     };
     for _ in 0..63 {
-        journal.note(&handles, Event::PeerConnected { peer: b"a=b" });
+        journal.note(&handles, connected(b"a=b"));
     }
     for host in 0..62 {
         let ip = Ipv6Addr::new(0x2001, 0xdb8, 0, 1, 0, 0, 0, host);
@@ -307,6 +342,8 @@ fn flood(
 ) {
     let stranger = Event::StrangerGone {
         name: None,
+        called: None,
+        me: b"agg",
         address: Some(caller),
         cause,
     };
@@ -320,29 +357,47 @@ fn show_levels<R: Print + Wait + Copy + AllocGlobal>(rt: &R) {
         rt: *rt,
         seconds: Some(MORNING),
     };
-    journal.note(&handles, Event::PeerConnected { peer: b"lb1" });
+    journal.note(&handles, connected(b"lb1"));
     journal.note(&handles, Event::AdminTurnedAway { address: None });
     journal.note(&handles, Event::PeerTurnedAway { address: None });
     journal.write_out(&handles);
 }
 
-/// Hellos that are refused since their senders aren't configured.
-fn show_no_peers<R: Print + Wait + Copy + AllocGlobal>(rt: &R) {
+/// Hellos that are refused since their senders aren't configured, and since they call the collector
+/// by another name.
+fn show_refused<R: Print + Wait + Copy + AllocGlobal>(rt: &R) {
     let journal = Journal::new(rt.alloc(), Heading::Time);
     let handles = Still {
         rt: *rt,
         seconds: Some(MORNING),
     };
-    let cause = Cause::Session(SessionCause::Refused(Status::RemoteName));
-    for name in [b"lb9".as_slice(), b"a\"b\n".as_slice(), LONG.as_slice()] {
-        let stranger = Event::StrangerGone {
-            name: Some(name),
-            address: None,
-            cause: Some(&cause),
-        };
-        journal.note(&handles, stranger);
+    let unknown = Cause::Session(SessionCause::Refused(Status::RemoteName));
+    let other = Cause::Session(SessionCause::Refused(Status::LocalName));
+    let names = [b"lb9".as_slice(), b"a\"b\n".as_slice(), LONG.as_slice()];
+    for name in names {
+        note_refused(&journal, &handles, Some(name), None, &unknown);
+    }
+    for called in names {
+        note_refused(&journal, &handles, None, Some(called), &other);
     }
     journal.write_out(&handles);
+}
+
+fn note_refused(
+    journal: &Journal,
+    clock: &(impl Clock + Wait),
+    name: Option<&[u8]>,
+    called: Option<&[u8]>,
+    cause: &Cause,
+) {
+    let stranger = Event::StrangerGone {
+        name,
+        called,
+        me: b"agg",
+        address: None,
+        cause: Some(cause),
+    };
+    journal.note(clock, stranger);
 }
 
 /// The same line at odd moments, and where the clock fails.
@@ -356,6 +411,6 @@ fn show_moments<R: Print + Wait + Copy + AllocGlobal>(rt: &R) {
 fn show_moment<R: Print + Wait + Copy + AllocGlobal>(rt: &R, seconds: Option<u64>) {
     let journal = Journal::new(rt.alloc(), Heading::Time);
     let handles = Still { rt: *rt, seconds };
-    journal.note(&handles, Event::PeerConnected { peer: b"lb1" });
+    journal.note(&handles, connected(b"lb1"));
     journal.write_out(&handles);
 }

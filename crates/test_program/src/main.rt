@@ -1,23 +1,26 @@
 //! Runs the program in memory, and prints what it writes to each stream and its exit status; then
-//! lines of the log, and when a collector counts as stuck. What it writes to standard output is printed as it comes, what it writes to
-//! standard error behind that.
+//! lines of the log, and when a collector counts as stuck. What it writes to standard output is
+//! printed as it comes, what it writes to standard error behind that.
 //!
 //! Last it runs `aggregator listen` on sockets, with a peer and admins: `tcp` says how. That
 //! collector is still running when the program ends.
 #![tactic(auto)]
 
 mod full;
+mod keys;
+mod learned;
 mod log;
 mod scene;
 mod status;
 mod stuck;
 mod tcp;
 
-use collector_log::Memory;
+use collector_log::Usage;
 use command_line::Endpoints;
 use program::{Asked, Prepared, prepare};
-use scene::{Scene, Shelf, Torn};
+use scene::{Scene, Shelf, Still, Torn};
 use std::io::{BufRead, BufReader, Write};
+use std::marker::Brand;
 use std::net::{Ipv4Addr, Net, SocketAddr, SocketAddrV4, TcpListener, TcpStream};
 use std::random::RandomSource;
 use std::sync::Wait;
@@ -109,12 +112,22 @@ fn main(rt: HostRuntime) -> anyhow::Result<()> {
     show_torn(&rt)?;
     show_addresses_in_use(&rt)?;
     log::show(&rt)?;
+    show_keys(&rt)?;
     stuck::show(&rt)?;
     let (peers, admin) = tcp::addresses(&rt)?;
     let _collector = thread::spawn(&rt, move || {
         let _ = tcp::collect(&rt, peers, admin);
     })?;
     tcp::show(&rt, peers, admin)
+}
+
+/// Prints what the log says of the keys of logged filters.
+fn show_keys<R: Print + Wait + Copy + AllocGlobal>(rt: &R) -> anyhow::Result<()> {
+    let still = Still {
+        rt: *rt,
+        seconds: Some(log::MORNING),
+    };
+    keys::show::<Brand, R>(&still, keys::opening(rt.alloc())?)
 }
 
 /// Prints what was written to standard error, and the exit status.
@@ -136,7 +149,7 @@ fn show_words(rt: &impl Print, words: &[&[u8]]) -> io::Result<()> {
 fn show_run<R>(rt: &R, words: &'static [&'static [u8]], input: &'static [u8]) -> io::Result<()>
 where
     R: Threads + Wait + Copy + Send + Sync + 'static,
-    R: Print + Eprint + AllocGlobal + Clock + RandomSource + Memory,
+    R: Print + Eprint + AllocGlobal + Clock + RandomSource + Usage,
     R: Net<Listener = TcpListener, Stream = TcpStream>,
 {
     show_words(rt, words)?;
@@ -298,7 +311,7 @@ fn show_torn(rt: &(impl Print + AllocGlobal)) -> io::Result<()> {
 fn listen<R, E>(rt: &R, peers: SocketAddrV4, admin: SocketAddrV4, errors: &mut E) -> io::Result<u8>
 where
     R: Threads + Wait + Copy + Send + Sync + 'static,
-    R: Print + Eprint + AllocGlobal + Clock + RandomSource + Memory,
+    R: Print + Eprint + AllocGlobal + Clock + RandomSource + Usage,
     R: Net<Listener = TcpListener, Stream = TcpStream>,
     E: Write,
 {
@@ -315,7 +328,7 @@ where
 fn show_in_use<R>(rt: &R, peers: SocketAddrV4, admin: SocketAddrV4, port: u16) -> io::Result<()>
 where
     R: Threads + Wait + Copy + Send + Sync + 'static,
-    R: Print + Eprint + AllocGlobal + Clock + RandomSource + Memory,
+    R: Print + Eprint + AllocGlobal + Clock + RandomSource + Usage,
     R: Net<Listener = TcpListener, Stream = TcpStream>,
 {
     let mut errors = Vec::new(rt.alloc());
@@ -330,7 +343,7 @@ where
 fn show_socket_in_use<R>(rt: &R, peers: SocketAddrV4) -> io::Result<()>
 where
     R: Threads + Wait + Copy + Send + Sync + 'static,
-    R: Print + Eprint + AllocGlobal + Clock + RandomSource + Memory,
+    R: Print + Eprint + AllocGlobal + Clock + RandomSource + Usage,
     R: Net<Listener = TcpListener, Stream = TcpStream>,
 {
     say_in_use(rt, "the socket of the operators is in use")?;
@@ -357,7 +370,7 @@ fn say_in_use(rt: &impl Print, what: &str) -> io::Result<()> {
 fn show_peers_in_use<R>(rt: &R, any: SocketAddrV4, other: SocketAddrV4) -> io::Result<()>
 where
     R: Threads + Wait + Copy + Send + Sync + 'static,
-    R: Print + Eprint + AllocGlobal + Clock + RandomSource + Memory,
+    R: Print + Eprint + AllocGlobal + Clock + RandomSource + Usage,
     R: Net<Listener = TcpListener, Stream = TcpStream>,
 {
     say_in_use(rt, "the address of the proxies is in use")?;
@@ -375,7 +388,7 @@ where
 fn show_admin_in_use<R>(rt: &R, any: SocketAddrV4, other: SocketAddrV4) -> io::Result<()>
 where
     R: Threads + Wait + Copy + Send + Sync + 'static,
-    R: Print + Eprint + AllocGlobal + Clock + RandomSource + Memory,
+    R: Print + Eprint + AllocGlobal + Clock + RandomSource + Usage,
     R: Net<Listener = TcpListener, Stream = TcpStream>,
 {
     say_in_use(rt, "the address of the operators is in use")?;
@@ -391,7 +404,7 @@ where
 fn show_addresses_in_use<R>(rt: &R) -> io::Result<()>
 where
     R: Threads + Wait + Copy + Send + Sync + 'static,
-    R: Print + Eprint + AllocGlobal + Clock + RandomSource + Memory,
+    R: Print + Eprint + AllocGlobal + Clock + RandomSource + Usage,
     R: Net<Listener = TcpListener, Stream = TcpStream>,
 {
     let any = SocketAddrV4::new(Ipv4Addr::LOCALHOST, 0);

@@ -2,7 +2,7 @@
 
 ghost use Rattle.std.specs.Prelude.{None};
 
-use collector_log::Memory;
+use collector_log::Usage;
 use listening::Paths;
 use std::alloc::{Allocator, Global};
 use std::env::{Env, FillError};
@@ -132,13 +132,21 @@ impl<R> Clock for Still<R> {
     }
 }
 
-impl<R> Memory for Still<R> {
+impl<R> Usage for Still<R> {
     fn resident(&self) -> Option<u64> {
         Some(13_381_632)
     }
 
     fn worked(&self) -> Option<u64> {
         Some(1240)
+    }
+
+    fn began(&self) -> Option<u64> {
+        Some(1_796_123_456_780)
+    }
+
+    fn descriptors(&self) -> Option<u64> {
+        Some(19)
     }
 }
 
@@ -218,6 +226,10 @@ impl Paths for Shelf {
 
     fn logs_to_journald(&self) -> bool {
         false
+    }
+
+    fn commit(&self) -> Option<String> {
+        None
     }
 
     fn listen(&self, _path: &str) -> io::Result<UnixListener> {

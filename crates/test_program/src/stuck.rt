@@ -1,7 +1,7 @@
 //! When a collector counts as stuck, and lines of the log on that and on HTTP.
 
 use crate::scene::Still;
-use collector_log::{Alarm, Event, Heading, Journal};
+use journal::{Alarm, Event, Heading, Journal};
 use listening::{Patience, Round, Signs};
 use program::Stuck;
 use sockets::{Admins, HttpCall};

@@ -4,11 +4,12 @@
 //! defines a table and sends three updates, each once the one before it is acknowledged; then an
 //! admin asks for the table and what else stands, and quits. Another one asks by the socket, which
 //! was left there before, and is told what is wrong with its lines. A browser's form ends its
-//! connection and changes nothing. A stranger that says nothing is connected all the while, and a newer connection of the peer ends the older one. What each is
-//! answered is printed. The collector doesn't end by itself: the program ends while it runs.
+//! connection and changes nothing. A stranger that says nothing is connected all the while, and a
+//! newer connection of the peer ends the older one. What each is answered is printed. The collector
+//! doesn't end by itself: the program ends while it runs.
 
 use anyhow::{Result, anyhow};
-use collector_log::Memory;
+use collector_log::Usage;
 use listening::Disk;
 use std::alloc::Global;
 use std::env::Env;
@@ -195,7 +196,7 @@ fn browse(rt: &HostRuntime, admin: SocketAddr) -> Result<()> {
 pub fn collect<R>(rt: &R, peers: SocketAddr, admin: SocketAddr) -> Result<u8>
 where
     R: Threads + Wait + Copy + Send + Sync + 'static,
-    R: Input + Print + Eprint + AllocGlobal + Clock + RandomSource + Memory,
+    R: Input + Print + Eprint + AllocGlobal + Clock + RandomSource + Usage,
     R: Net<Listener = TcpListener, Stream = TcpStream> + Files<File = File> + Env,
 {
     let peers = format!(in rt.alloc(); "--peers={peers}")?;
@@ -234,7 +235,7 @@ fn ask_by_socket<R: Print + AllocGlobal + Net + Files>(rt: &R) -> Result<()> {
     println!(rt; "the socket has mode {mode:o}")?;
     let mut here = UnixStream::connect(rt, SOCKET)?;
     here.set_read_timeout(Some(Duration::from_millis(LIMIT)))?;
-    here.write_all(b"show table\nshow nothing\nshow filter clients\nquit\n")?;
+    here.write_all(b"show table\nshow nothing; show filter clients;show filter;\nexit\n")?;
     let mut answer = Vec::new(rt.alloc());
     here.read_to_end(&mut answer)?;
     io::writer(rt).write_all(answer.as_slice())?;

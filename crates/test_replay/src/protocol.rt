@@ -3,16 +3,14 @@
 //! give.
 //!
 //! `read HEX` and `write NUMBER`: an encoded integer. `messages SIZE HEX`: what a feed makes of the
-//! bytes in pieces of this size. `again HEX`: its messages, written. `define`: a definition,
-//! written. `accept seated` or `accept unseated`: a new session at 0. `feed NOW HEX` and `idle
-//! NOW`: what it gives then, in ms.
+//! bytes in pieces of this size. `again HEX`: its messages, written. `accept seated` or `accept
+//! unseated`: a new session at 0. `feed NOW HEX` and `idle NOW`: what it gives then, in ms.
 
 ghost use Rattle.std.specs.Prelude.{◌<◌};
 
 use agg_types::{Config, Items, LentCells, LentWhat, NoMemory, What, Whats};
 use anyhow::Result;
-use bytes::Bytes;
-use peers_msg::{Definition, Feed, Message, WireCause, WireFault, get_int, put_int, write_message};
+use peers_msg::{Feed, Message, WireCause, WireFault, get_int, put_int, write_message};
 use session_core::{Batch, Session, SessionCause, SessionFault};
 use std::alloc::Global;
 use std::fs;
@@ -133,21 +131,6 @@ fn print_again(rt: &impl Print, alloc: Global, bytes: &[u8]) -> Result<()> {
     print_bytes(rt, alloc, out.as_slice())
 }
 
-fn print_definition(rt: &impl Print, alloc: Global) -> Result<()> {
-    let message = Message::Define(Definition {
-        id: 1,
-        name: Bytes::from_static(b"t"),
-        kind: 4,
-        len: 4,
-        bits: 4,
-        expiry: 0,
-        periods: Items::from_vec(Vec::new(alloc)),
-    });
-    let mut bytes = Vec::new(alloc);
-    write_message(&message, &mut bytes)?;
-    print_bytes(rt, alloc, bytes.as_slice())
-}
-
 /// Feeds a session a piece, again after `NoMemory`.
 fn take_again(
     session: &mut Session,
@@ -259,7 +242,6 @@ fn run_command(
             print_messages(rt, alloc, size, bytes)
         }
         "again" => print_again(rt, alloc, bytes),
-        "define" => print_definition(rt, alloc),
         "feed" => print_taken(rt, alloc, session, config, bytes, number),
         "idle" => print_idle(rt, session, number),
         _ => Ok(()),

@@ -158,11 +158,11 @@ pub const TELLINGS: [(&str, &[u8], u64); 5] = [
 ];
 
 /// A fleet of two proxies that are told a filter's keys.
-const PUSHED: &[u8] = b"name agg\npeer lb1\npeer lb2\ntable t type ip size 1000 store gpc0\n\
+pub const PUSHED: &[u8] = b"name agg\npeer lb1\npeer lb2\ntable t type ip size 1000 store gpc0\n\
     filter f t data.gpc0 ge 6\npush f\n";
 
 /// The same, where a key that left the set is left to its life.
-const HELD: &[u8] = b"name agg\npeer lb1\npeer lb2\ntable t type ip size 1000 store gpc0\n\
+pub const HELD: &[u8] = b"name agg\npeer lb1\npeer lb2\ntable t type ip size 1000 store gpc0\n\
     filter f t data.gpc0 ge 6\npush f hold 2000\n";
 
 /// A line of more than 4,096 bytes, that ends.
@@ -175,7 +175,7 @@ const SPACES: [u8; 4086] = [b' '; 4086];
 const RETURNS: [u8; 5000] = [b'\r'; 5000];
 
 /// What an admin sends behind the sessions of both peers.
-pub const ADMINS: [(&str, &[Step]); 20] = [
+pub const ADMINS: [(&str, &[Step]); 30] = [
     (
         "two commands in one piece",
         &[Step::Bytes(b"show table\nshow table t\n")],
@@ -233,6 +233,71 @@ pub const ADMINS: [(&str, &[Step]); 20] = [
             SHOW,
         ],
     ),
+    (
+        "a line behind one that exits",
+        &[Step::Bytes(b"show table\nexit\r\nshow table\n")],
+    ),
+    (
+        "filters and ranks, without a name and with one",
+        &[Step::Bytes(
+            b"add filter f t data.gpc0 ge 13\nshow filter\nshow filter f\nshow rank\nshow rank x\n",
+        )],
+    ),
+    (
+        "several commands on a line",
+        &[Step::Bytes(b"show table t;clear table t ; show table t\nshow table\n")],
+    ),
+    (
+        "blank parts of lines",
+        &[Step::Bytes(b"show table;\nshow table; \r;;  \r\n;\n ;show table\n\n")],
+    ),
+    (
+        "pieces that end beside a ;",
+        &[
+            Step::Bytes(b"show table"),
+            Step::Bytes(b";"),
+            Step::Bytes(b"show ta"),
+            Step::Bytes(b"ble;"),
+            Step::Bytes(b" \n"),
+            Step::Bytes(b"show table;qu"),
+            Step::Bytes(b"it;show table\n"),
+        ],
+    ),
+    (
+        "4,096 bytes and more in parts of a line",
+        &[
+            Step::Bytes(b"show table"),
+            Step::Bytes(&SPACES),
+            Step::Bytes(b";show table"),
+            Step::Bytes(&SPACES),
+            Step::Bytes(b" ;"),
+            Step::Bytes(&SPACES),
+            Step::Bytes(b"           ;show table\n"),
+        ],
+    ),
+    (
+        "no commands on a line, and a part of it that exits",
+        &[Step::Bytes(b"x;exit x; show;quit x\nexit ;show table\n")],
+    ),
+    (
+        "a change in a line that hasn't ended",
+        &[
+            Step::Bytes(b"clear table t;show table;clear"),
+            Step::Bytes(b" table x"),
+        ],
+    ),
+    (
+        "a prompt, and none any more",
+        &[Step::Bytes(b"x\nprompt x\nprompt\nx\nshow table x; ;show table\nprompt;x\n")],
+    ),
+    (
+        "a prompt in pieces, a change behind it, and a part that quits",
+        &[
+            Step::Bytes(b"pro"),
+            Step::Bytes(b"mpt\r\nclear"),
+            Step::Bytes(b" table t;show table t\nquit;x\n"),
+        ],
+    ),
     ("a CR before its LF", &[Step::Bytes(b"show table\r\n")]),
     (
         "several CRs before its LF",
@@ -272,7 +337,7 @@ pub const ADMINS: [(&str, &[Step]); 20] = [
 ];
 
 /// What an admin sends behind the sessions of both peers, where people read the answers.
-pub const PEOPLE: [(&str, &[Step]); 6] = [
+pub const PEOPLE: [(&str, &[Step]); 8] = [
     (
         "no command, for people",
         &[Step::Bytes(
@@ -300,6 +365,14 @@ pub const PEOPLE: [(&str, &[Step]); 6] = [
             b"add filter f t data.gpc0 ge 13\nadd filter f t data.gpc0 ge 1\nadd filter \xe9 t\n\
             show filter g\nshow next f\nshow filter f\n",
         )],
+    ),
+    (
+        "several commands on a line, for people",
+        &[Step::Bytes(b"shw;show tabel;\n")],
+    ),
+    (
+        "a prompt, and none any more, for people",
+        &[Step::Bytes(b" prompt\nshw\nprompt \nshw\n")],
     ),
     (
         "a word that is long and doesn't print, for people",

@@ -6,8 +6,9 @@
 //! and how many events the history has up to the last that it posted (`last`), and up to its leave
 //! (`left`). The last lines are of two peers, one that nobody knows, an admin and a timer at once,
 //! each in a thread of its own. The threads go one at a time in a fixed order: one thread for all
-//! would wait for ever. The first time all say what they have, the second time a gate closes before
-//! they have. Before them stand sessions of fleets whose proxies are told a filter's keys.
+//! would wait for ever. Three times all say what they have, once a gate closes before they have,
+//! and once nothing is served, since the timer has no seat. Before them stand sessions of fleets
+//! whose proxies are told a filter's keys, and workers to which allocations are refused.
 #![tactic(auto)]
 
 ghost use Rattle.std.specs.Prelude.{◌≡◌};
@@ -17,32 +18,36 @@ mod bytes;
 mod cases;
 mod everyone;
 mod fleet;
+mod held;
 mod known;
 mod lobby;
 mod memory;
+mod news;
 mod order;
 mod paper;
 mod peers;
 mod pieces;
 mod recording;
-mod rests;
+mod refused;
 mod rival;
 mod scene;
 mod timers;
 mod told;
 
-use crate::everyone::{CLOSING, WHOLE};
+use crate::everyone::COURSES;
 use crate::order::Course;
 use crate::peers::Case;
+use crate::refused::{TRIALS, Trial};
 use crate::scene::{Scene, gated, interrupted, play, read_to, unseated, whole, written_to};
-use anyhow::Result;
+use anyhow::{Result, anyhow};
 use hub::{Hub, Naming, Opening};
 use std::alloc::Global;
+use std::env::Env;
 use std::marker::Brand;
 use std::sync::Wait;
 use std::thread::Threads;
 use std::time::Clock;
-use test_hub_calls::opening;
+use test_hub_calls::{TRIES, opening};
 use test_support::{TWO_PROXIES, config};
 
 /// Does a scene over a hub of its own.
@@ -69,6 +74,17 @@ fn stage_all<J: Naming + Send + Sync, R: Print + Threads + Wait + Clock + Copy +
 {
     let hub = Hub::<J, &R>::new(alloc, rt, opening, 4)?;
     everyone::row(rt, alloc, &hub, course)
+}
+
+/// Serves a session behind a look, over a hub of its own.
+fn stage_held<J: Naming + Send + Sync, R: Print + Threads + Wait + Clock + Copy + Send + Sync>(
+    rt: &R,
+    alloc: Global,
+    opening: Opening,
+) -> Result<()>
+    requires { opening.of ≡ J.book }
+{
+    held::row(rt, alloc, &Hub::<J, &R>::new(alloc, rt, opening, 4)?)
 }
 
 /// Sessions to which nothing happens from outside, and some without a seat.
@@ -134,8 +150,7 @@ fn add_gates(scenes: &mut Vec<Scene>) -> Result<()> {
     Ok(())
 }
 
-/// Many workers, one after the other, that end before their source does; timers; and an admin that
-/// rests.
+/// Many workers, one after the other, that end before their source does; and timers.
 fn add_last(scenes: &mut Vec<Scene>) -> Result<()> {
     for scene in [
         Scene::Leaving(
@@ -149,8 +164,6 @@ fn add_last(scenes: &mut Vec<Scene>) -> Result<()> {
         Scene::Portions(1000, 4),
         Scene::Portions(3, 6),
         Scene::Portions(1, 3),
-        Scene::Resting(1000),
-        Scene::Resting(5),
     ] {
         scenes.push(scene)?;
     }
@@ -191,16 +204,42 @@ fn run<R: Print + Threads + Wait + Clock + Copy + Send + Sync>(
     for (title, fleet, writes) in cases::TELLINGS {
         act(rt, alloc, fleet, telling(title, writes))?;
     }
+    for (title, fleet, steps) in news::CASES {
+        act(rt, alloc, fleet, Scene::News(title, steps))?;
+    }
     act(rt, alloc, pieces::LARGE, Scene::Pieces)?;
     for scene in [Scene::Rival, Scene::Known] {
         act(rt, alloc, TWO_PROXIES, scene)?;
     }
-    for course in [WHOLE, CLOSING] {
+    run_again(rt, alloc)?;
+    stage_held::<Brand, R>(rt, alloc, opening(alloc)?)?;
+    for course in COURSES {
         stage_all::<Brand, R>(rt, alloc, opening(alloc)?, course)?;
     }
     Ok(())
 }
 
+/// Lets a worker work to which allocations are refused, from the start where none was printed.
+fn act_again<R: Print + Wait + Clock>(rt: &R, alloc: Global, trial: Trial) -> Result<()> {
+    for _ in 0..TRIES {
+        if act(rt, alloc, trial.fleet, Scene::Refused(trial)).is_ok() {
+            return Ok(());
+        }
+    }
+    Err(anyhow!("{} never worked", trial.title))
+}
+
+/// Workers to which allocations are refused.
+fn run_again<R: Print + Wait + Clock>(rt: &R, alloc: Global) -> Result<()> {
+    for trial in TRIALS {
+        act_again(rt, alloc, trial)?;
+    }
+    Ok(())
+}
+
 fn main(rt: HostRuntime) -> Result<()> {
+    if std::env::args(&rt)?.any(|word| word.as_str() == "again") {
+        return run_again(&rt, rt.alloc());
+    }
     run(&rt, rt.alloc())
 }

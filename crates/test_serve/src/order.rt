@@ -18,8 +18,11 @@ pub enum Who {
 /// Who goes when, and the first turn that finds the gate closed.
 #[derive(Clone, Copy)]
 pub struct Course {
+    pub title: &'static str,
     pub turns: &'static [Who],
     pub open: usize,
+    /// Whether others have all seats.
+    pub is_full: bool,
 }
 
 /// How many workers there are.

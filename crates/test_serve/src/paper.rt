@@ -2,7 +2,7 @@
 
 use crate::fleet::sum_in;
 use hub::Lens;
-use std::alloc::Global;
+use std::alloc::{AllocError, Global};
 use std::io;
 use std::io::{ErrorKind, Write};
 
@@ -23,6 +23,9 @@ pub const EVEN: Pen = Pen {
     most: 1000,
     interrupted: false,
 };
+
+/// The room of a page, in bytes.
+const PAGE: usize = 4096;
 
 /// Bytes that were sent; and what a lens showed of the row of 10.0.0.1 at each write, if it has
 /// one.
@@ -47,6 +50,13 @@ impl Paper {
             pen,
             was_interrupted: false,
         }
+    }
+
+    /// An empty paper that never fails, with room for a page.
+    pub fn roomy(alloc: Global) -> Result<Paper, AllocError> {
+        let mut paper = Paper::new(alloc, EVEN, None);
+        paper.taken = Vec::with_capacity(alloc, PAGE)?;
+        Ok(paper)
     }
 
     /// What was written on it.

@@ -3,7 +3,8 @@
 use crate::memory::Step;
 use crate::paper::EVEN;
 use crate::peers::Case;
-use crate::{admins, cases, known, peers, pieces, rests, rival, timers};
+use crate::refused::Trial;
+use crate::{admins, cases, known, news, peers, pieces, refused, rival, timers};
 use anyhow::Result;
 use hub::{Hub, Naming};
 use serve::Door;
@@ -26,14 +27,16 @@ pub enum Scene {
     Timer([u64; 4]),
     /// A timer that lets so many rows end by one moment, and whose gate is open for so many looks.
     Portions(usize, u64),
-    /// An admin whose looks last, and whose gate is open for so many looks.
-    Resting(u64),
     /// So many sessions one after the other.
     Leaving(Case, u64),
     /// So many admins one after the other.
     Quitting(Case, u64),
+    /// A session, and what it tells its gate.
+    News(&'static str, &'static [Step]),
     /// A session whose proxy is told a large set.
     Pieces,
+    /// A worker to which allocations are refused.
+    Refused(Trial),
     /// A session whose peer calls again.
     Rival,
     /// A session and an admin of known bytes.
@@ -133,7 +136,6 @@ pub fn play<J: Naming, H: Wait + Drop, R: Wait + Clock + Print>(
         Scene::Person(case) => admin(rt, alloc, hub, case, Door::People),
         Scene::Timer(moments) => timers::row(rt, alloc, hub, moments),
         Scene::Portions(portion, open) => timers::portions(rt, alloc, hub, portion, open),
-        Scene::Resting(looks) => rests::row(rt, alloc, hub, looks),
         Scene::Leaving(case, count) => {
             say_left(rt, case, count, peers::leavers(rt, alloc, hub, case, count))
         }
@@ -145,7 +147,9 @@ pub fn play<J: Naming, H: Wait + Drop, R: Wait + Clock + Print>(
                 admins::leavers(rt, alloc, hub, case, count),
             )
         }
+        Scene::News(title, steps) => news::row(rt, alloc, hub, title, steps),
         Scene::Pieces => pieces::row(rt, alloc, hub),
+        Scene::Refused(trial) => refused::row(rt, alloc, hub, trial),
         Scene::Rival => rival::row(rt, alloc, hub),
         Scene::Known => known::row(rt, alloc, hub),
     }

@@ -20,10 +20,21 @@ use test_support::{address, alone};
 
 /// The moments of a clock, one behind each rest; then 0.
 #[derive(Drop)]
-struct Beats {
+pub struct Beats {
     moments: [u64; 4],
     at: AtomicUsize,
     portion: usize,
+}
+
+impl Beats {
+    /// A clock of these moments, which lets all rows end by one.
+    pub fn new(moments: [u64; 4]) -> Beats {
+        Beats {
+            moments,
+            at: AtomicUsize::new(0),
+            portion: 1000,
+        }
+    }
 }
 
 impl Clock for Beats {
@@ -106,7 +117,7 @@ fn run<J: Naming, H: Wait + Drop, R: Wait, G: Gate>(
 
 /// Runs a timer over a clock and a gate, and tells how it ended and what a look shows that has
 /// learned of its last post. None without a seat or a lens.
-fn tick<J: Naming, H: Wait + Drop, R: Wait, G: Gate>(
+pub fn tick<J: Naming, H: Wait + Drop, R: Wait, G: Gate>(
     rt: &R,
     alloc: Global,
     hub: &Hub<J, H>,
@@ -133,11 +144,7 @@ pub fn row<J: Naming, H: Wait + Drop, R: Wait + Print>(
     hub: &Hub<J, H>,
     moments: [u64; 4],
 ) -> Result<()> {
-    let beats = Beats {
-        moments,
-        at: AtomicUsize::new(0),
-        portion: 1000,
-    };
+    let beats = Beats::new(moments);
     let gate = Turnstile::new(TURNS);
     let Some((ending, moment)) = tick(rt, alloc, hub, &beats, &gate) else {
         return Err(anyhow!("no seat or no lens"));

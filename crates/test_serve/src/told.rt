@@ -90,6 +90,18 @@ fn count(receipt: &Option<Receipt>) -> Option<u64> {
     }
 }
 
+/// How a worker ended, as far as memory goes.
+#[derive(Clone, Copy, Debug, PartialEq, Eq)]
+pub enum Outcome {
+    /// By itself.
+    Whole,
+    /// It lacked memory, and what it had read last wasn't posted.
+    NoMemory,
+    /// Its last post was stored and not shown.
+    Pending,
+    Other,
+}
+
 impl Ending {
     fn told(how: How, served: &Served) -> Ending {
         Ending {
@@ -113,6 +125,22 @@ impl Ending {
         let mut ending = self;
         ending.turns = Some(turns);
         ending
+    }
+
+    /// How it ended, as far as memory goes.
+    pub fn outcome(self) -> Outcome {
+        match self.how {
+            How::Whole => Outcome::Whole,
+            How::Session(SessionCause::NoMemory) => Outcome::NoMemory,
+            How::Post(Refusal::NoMemory) => Outcome::NoMemory,
+            How::Post(Refusal::Pending) => Outcome::Pending,
+            _ => Outcome::Other,
+        }
+    }
+
+    /// How many events its last post at Ok shows behind so many.
+    pub fn posted_behind(self, count: u64) -> u64 {
+        self.last.map_or(0, |last| last.saturating_sub(count))
     }
 
     /// Whether its seat is free again.

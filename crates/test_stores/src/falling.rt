@@ -64,6 +64,8 @@ fn config(alloc: Global, filters: Declared<Filter>) -> Result<Config, NoMemory>
         ranks: Declared::new(alloc),
         pushes: Declared::new(alloc),
         rows: None,
+        logs: Declared::new(alloc),
+        ignored: Declared::new(alloc),
     })
 }
 

@@ -1,6 +1,7 @@
 //! Rates, at the moments at which they change.
 
 use anyhow::Result;
+use crossing::{Meter, first_below};
 use period_rate::Rate;
 use std::io::Print;
 
@@ -81,6 +82,16 @@ fn show_case(rt: &impl Print, case: &Case) -> Result<()> {
     show(rt, case.name, rate, case.moments)
 }
 
+/// Since when the shared rate is below these bounds.
+fn show_bounds(rt: &impl Print) -> Result<()> {
+    let rate = Rate::arrive(10_000, 0, 30, 100, 0);
+    for bound in [101, 1, 0] {
+        let first = first_below(&rate, 0, bound, &mut Meter::new());
+        println!(rt; "shared: below {bound} from {first:?} on")?;
+    }
+    Ok(())
+}
+
 fn show_words(rt: &impl Print) -> Result<()> {
     let far = Rate::arrive(1, 0, 2, 3, (1 << 33) + 5);
     let again = Rate::from_words(far.to_words());
@@ -93,5 +104,6 @@ pub fn run(rt: &impl Print) -> Result<()> {
     for case in CASES {
         show_case(rt, &case)?;
     }
+    show_bounds(rt)?;
     show_words(rt)
 }

@@ -1,7 +1,9 @@
 //! What configurations declare, or their first faulty lines and what explains them.
 
 use agg_config::{LineCause, LineFault};
-use agg_types::{Col, Cond, Config, Filter, KeyKind, Name, NoMemory, Push, Rank, Shape};
+use agg_types::{
+    Col, Cond, Config, Filter, Ignored, KeyKind, Logged, Name, NoMemory, Push, Rank, Shape,
+};
 use config_text::append_explanation;
 use std::alloc::Global;
 use std::io;
@@ -69,7 +71,9 @@ fn print_config<W: Write>(config: &Config, out: &mut W) -> io::Result<()> {
     print_filters(config.filters.as_slice(), out)?;
     print_ranks(config.ranks.as_slice(), out)?;
     print_pushes(config.pushes.as_slice(), out)?;
-    print_bound(config.rows, out)
+    print_bound(config.rows, out)?;
+    print_logs(config.logs.as_slice(), out)?;
+    print_ignored(config.ignored.as_slice(), out)
 }
 
 fn print_peers<W: Write>(peers: &[Name], out: &mut W) -> io::Result<()> {
@@ -201,4 +205,23 @@ fn print_bound<W: Write>(rows: Option<u64>, out: &mut W) -> io::Result<()> {
         None => Ok(()),
         Some(rows) => writeln!(out, "rows {rows}"),
     }
+}
+
+fn print_logs<W: Write>(logs: &[Logged], out: &mut W) -> io::Result<()> {
+    for logged in logs {
+        print_line("log ", logged.filter.as_slice(), out)?;
+    }
+    Ok(())
+}
+
+fn print_ignored<W: Write>(ignored: &[Ignored], out: &mut W) -> io::Result<()> {
+    for table in ignored {
+        print_line("ignore ", table.table.as_slice(), out)?;
+    }
+    Ok(())
+}
+
+fn print_line<W: Write>(kind: &str, name: &[u8], out: &mut W) -> io::Result<()> {
+    print_named(kind, name, out)?;
+    out.write_all(b"\n")
 }

@@ -2,10 +2,10 @@
 //!
 //! Each line of data/commands, asked of the fleet of data/fleet: what is answered. Each
 //! configuration of data/configurations: what it declares, or its first faulty line and what
-//! explains it. Each of data/written: its text, which is read and written again. Each haproxy.cfg of
-//! data/haproxy_files: the configuration that it gives. Each command line on standard input: what it
-//! asks for, or the text and the exit status of one that asks for no job; then the program's own,
-//! with whose status it ends.
+//! explains it. Each of data/written: its text, which is read and written again. Each haproxy.cfg
+//! of data/haproxy_files: the configuration that it gives. Each command line on standard input:
+//! what it asks for, or the text and the exit status of one that asks for no job; then the
+//! program's own, with whose status it ends.
 //!
 //! What is read is read once more where an allocation failed.
 #![tactic(auto)]

@@ -12,3 +12,9 @@ ghosts-follow g a = record { book = a.opening.of }
 
 abbrev pub ghosts-stage : goal.ghosts-stage
 ghosts-stage g a = record { book = a.opening.of }
+
+abbrev pub ghosts-add_twice : goal.ghosts-add_twice
+ghosts-add_twice g a = record { book = a.opening.of }
+
+abbrev pub ghosts-stage-2 : goal.ghosts-stage-2
+ghosts-stage-2 g a = record { book = a.opening.of }

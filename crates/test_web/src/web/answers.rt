@@ -8,7 +8,7 @@ use std::net::{Ipv4Addr, SocketAddr, SocketAddrV4};
 use std::str;
 use test_support::{address, config};
 use web_lists::{filter_list, one_key, rank_list, row_list, summed_up, table_list};
-use web_text::{AskFault, Entries, PeerStanding, Standing, figures, overview, peer_list};
+use web_text::{AskFault, Entries, NotSent, PeerStanding, Standing, figures, overview, peer_list};
 
 /// What the peers put: two rows of one address, one of others, and a text.
 fn puts(alloc: Global) -> Result<Vec<What>> {
@@ -46,8 +46,21 @@ fn book(alloc: Global) -> Result<Book> {
     Ok(book)
 }
 
-/// What stands beside it.
-pub fn standing(alloc: Global, now: u64) -> Result<Standing> {
+/// A column that the first of two peers doesn't send.
+fn not_sent(alloc: Global) -> Result<Vec<Vec<NotSent>>> {
+    let mut columns = Vec::new(alloc);
+    columns.push(NotSent {
+        table: Vec::from_slice(alloc, b"/t")?,
+        reason: format!(in alloc; "gpc1 isn't sent")?,
+    })?;
+    let mut peers = Vec::new(alloc);
+    peers.push(columns)?;
+    peers.push(Vec::new(alloc))?;
+    Ok(peers)
+}
+
+/// What stands of two peers: one is connected, the other one never came.
+fn peers(alloc: Global, now: u64) -> Result<Vec<PeerStanding>> {
     let mut peers = Vec::new(alloc);
     let address = SocketAddr::V4(SocketAddrV4::new(Ipv4Addr::new(10, 1, 0, 7), 40312));
     peers.push(PeerStanding {
@@ -57,6 +70,9 @@ pub fn standing(alloc: Global, now: u64) -> Result<Standing> {
         updates: 12,
         last_update: Some(1400),
         unfollowed: 1,
+        told: 2,
+        learned: 5,
+        told_at: Some(now.saturating_sub(120)),
     })?;
     peers.push(PeerStanding {
         is_connected: false,
@@ -65,12 +81,21 @@ pub fn standing(alloc: Global, now: u64) -> Result<Standing> {
         updates: 0,
         last_update: None,
         unfollowed: 0,
+        told: 0,
+        learned: 0,
+        told_at: None,
     })?;
+    Ok(peers)
+}
+
+/// What stands beside it.
+pub fn standing(alloc: Global, now: u64) -> Result<Standing> {
     let mut rates = Vec::new(alloc);
     rates.push(7)?;
     rates.push(5)?;
     Ok(Standing {
         version: "1.2.3",
+        commit: format!(in alloc; "0123456789abcdef")?,
         now,
         connected: 1,
         updates: 12,
@@ -80,9 +105,41 @@ pub fn standing(alloc: Global, now: u64) -> Result<Standing> {
         refused: 5,
         memory: Some(13_381_632),
         processor: Some(1240),
-        peers,
+        began: Some(1_796_123_456_780),
+        descriptors: Some(19),
+        lost_lines: 0,
+        peers: peers(alloc, now)?,
+        told: Vec::new(alloc),
+        not_sent: not_sent(alloc)?,
         rates,
     })
+}
+
+/// Two pushed filters, in another order than they are declared.
+const PUSHED: &[u8] = b"name agg\npeer lb1\npeer lb2\ntable t type ip size 10 store gpc0\n\
+    filter low t data.gpc0 ge 1\nfilter high t data.gpc0 ge 2\npush high\npush low\n";
+
+/// How many keys of each of them two peers are told.
+const TOLD: [[u64; 2]; 2] = [[3, 2], [0, 0]];
+
+/// Shows the figures of what peers are told.
+fn show_told(rt: &impl Print, alloc: Global) -> Result<()> {
+    let book = Book::new(alloc, config(alloc, PUSHED)?, 0)?;
+    let summary = summed_up(alloc, &book, 7, 2550)?;
+    let mut standing = standing(alloc, 2600)?;
+    for keys in TOLD {
+        standing.told.push(Vec::from_slice(alloc, &keys)?)?;
+    }
+    let text = figures(alloc, book.config(), &summary, &standing)?;
+    let Ok(text) = str::from_utf8(text.as_slice()) else {
+        return Err(anyhow!("not UTF-8"));
+    };
+    for line in text.lines() {
+        if line.starts_with("sesamejoist_peer_told_keys") {
+            println!(rt; "{line}")?;
+        }
+    }
+    Ok(())
 }
 
 fn show_text(rt: &impl Print, text: &[u8]) -> Result<()> {
@@ -152,5 +209,6 @@ pub fn show(rt: &impl Print, alloc: Global) -> Result<()> {
         peer_list(alloc, config, &summary, &standing, entries(5, Some(b"lb3"))),
     )?;
     show_text(rt, overview(alloc, config, &summary, &standing)?.as_slice())?;
-    show_text(rt, figures(alloc, config, &summary, &standing)?.as_slice())
+    show_text(rt, figures(alloc, config, &summary, &standing)?.as_slice())?;
+    show_told(rt, alloc)
 }

@@ -18,8 +18,8 @@ use test_support::address;
 use web_door::{Clerk, Facts, Looks, Porter};
 use web_text::Standing;
 
-/// What stands of a collector that is written down, and a clock: each time that it is asked, so many
-/// µs have passed.
+/// What stands of a collector that is written down, and a clock: each time that it is asked, so
+/// many µs have passed.
 pub struct Paper {
     alloc: Global,
     hosts: Vec<String>,

@@ -17,12 +17,11 @@ use test_support::{address, config, put};
 use web_door::Looks;
 use web_lists::{Span, change_list};
 
-/// A collector that pushes what its filter holds, so that changes are kept.
+/// A collector that pushes nothing: changes are kept of every filter.
 pub const CONFIG: &[u8] = b"name agg
 peer lb1
 table t type ip size 1000 store gpc0
 filter hot t data.gpc0 ge 5
-push hot
 ";
 
 /// What is asked on one connection: of no number, of those behind each post, of one that is above
