@@ -3,12 +3,12 @@
 
     tools/check/acting.py [--collector crates/aggregator/out/aggregator] [--log FILE]
 
-It starts `aggregator listen` with examples/acting.conf and Debian's haproxy as two proxies with examples/acting.cfg. A
-client sends 60 requests through each: neither counts more than 100, the fleet does, and both proxies refuse it with
-429, while others are served. It is served again once the fleet's filter has let it go; within 10 s where the
-collector is killed; and a proxy that starts anew, or whose master starts a new worker, refuses it at once. It wants
-haproxy and a built program. The last line counts passed and failed; the status is 1 where one failed, and 2 where
-something is missing.
+It starts `aggregator listen` with examples/acting.conf, and haproxy, or the environment's HAPROXY, as two proxies
+with examples/acting.cfg. A client sends 60 requests through each: neither counts more than 100, the fleet does, and
+both proxies refuse it with 429, while others are served. It is served again once the fleet's filter has let it go;
+within 10 s where the collector is killed; and a proxy that starts anew, or whose master starts a new worker,
+refuses it at once. It wants haproxy and a built program. The last line counts passed and failed; the status is 1
+where one failed, and 2 where something is missing.
 """
 
 import argparse
@@ -106,7 +106,7 @@ def master_reloads(report, collector, proxies, folder):
     report.check("after a reload the new worker is told, and refuses it", SETTLED,
                  lambda: "" if "10.0.0.70" in told(reloaded) or not collector.keys("abusers") else told(reloaded))
     report.check("what it answers then is 429, or the set has ended", 1,
-                 lambda: not_all(proxies, "10.0.0.70", 429) if collector.keys("abusers") else "")
+                 lambda: (wrong := not_all(proxies, "10.0.0.70", 429)) and collector.keys("abusers") and wrong)
 
 
 def main():

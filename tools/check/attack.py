@@ -32,6 +32,7 @@ sys.path.insert(0, str(pathlib.Path(__file__).resolve().parents[1]))
 
 from lib.beside import FORK, HOUR, TURN, Beside, Pushed, Stranger, definition, get, last_of, rows, seated
 from lib.collector import COLLECTOR, Collector
+from lib.needs import ends_cleanly, wants
 from lib.peers_protocol import HEARTBEAT
 from lib.surviving import MEGA, cleared, closed_of, config, few_threads, flooded, look_at, of_unit, scattered
 from lib.surviving import unserved, until_closed, without
@@ -278,6 +279,27 @@ def long_acts(o):
             text, worst, silence, lost = seen_by(beside)
             good = said == "ok" and worst < ACK and silence < SILENCE and not lost
             yield good, f"{command}, {count} keys of 4 peers: {said} in {took:.2f} s; {text} (bound {ACK} s)"
+        beside.stop()
+
+
+@attack
+def logged_keys(o):
+    """Keys that come into a logged filter's set and leave it all together: the log's rounds look at what moved."""
+    count = 100_000 if o.quick else 1_000_000
+    with Collector.of(o.program, config(["sane", "p0"], "filter f t data.gpc0 ge 1\nlog f\n")) as collector:
+        beside = Beside(collector.peers)
+        time.sleep(0.5)
+        beside.forget()
+        with Pushed(collector.peers, ["p0"], rows(1, scattered(count), 7), count):
+            beside.calm()
+            text, worst, silence, lost = seen_by(beside)
+            yield worst < ACK and silence < SILENCE and not lost, f"{count} keys come: {text} (bound {ACK} s)"
+            beside.forget()
+            said = collector.ask("clear table t", timeout=60).strip()
+            beside.calm()
+            text, worst, silence, lost = seen_by(beside)
+            good = said == "ok" and worst < ACK and silence < SILENCE and not lost
+            yield good, f"{count} keys leave: {said}; {text} (bound {ACK} s)"
         beside.stop()
 
 
@@ -636,12 +658,9 @@ def main():
     unknown = [name for name in o.only or [] if name not in ATTACKS]
     if unknown:
         words.error(f"no attack {unknown[0]}: they are {', '.join(ATTACKS)}")
-    if not os.access(o.program, os.X_OK):
-        words.error(f"{o.program} isn't built")
+    wants(program=o.program)
     o.program = o.program.resolve()
-    signal.signal(signal.SIGTERM, lambda *_: sys.exit(143))
-    # A shell that starts this in the background lets it ignore SIGINT.
-    signal.signal(signal.SIGINT, signal.default_int_handler)
+    ends_cleanly()
     signal.signal(signal.SIGALRM, too_long)
     resource.setrlimit(resource.RLIMIT_NOFILE, (4096, resource.getrlimit(resource.RLIMIT_NOFILE)[1]))
     held, failed = run(o.only or list(ATTACKS), o)

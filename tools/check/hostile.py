@@ -9,9 +9,10 @@ Admins send lines without an end, or nothing, drip them, never read, or stay for
 aren't configured, standard error takes nothing, and the peers' listener breaks. Where a filter is pushed, proxies read
 nothing, ask for all of it all the time, or answer what nobody said. Memory runs out while rows are shown, browsers send
 HTTP to the admin address, the system refuses threads, the Unix socket is looked at as it comes, and lines are provoked
-by the thousand. The clock's thread stands still, the whole process is stopped, and standard streams are closed. Signals
-and ports that are taken are tried too. It wants a built program. The last line counts passed and failed; the status is
-1 where one failed. It takes about seven minutes. tools/check/attack.py has the same and more with figures.
+by the thousand. Proxies reset their connections and come back, or don't. The clock's thread stands still, the whole
+process is stopped, and standard streams are closed. Signals and ports that are taken are tried too. It wants a built
+program. The last line counts passed and failed; the status is 1 where one failed. It takes about seven minutes.
+tools/check/attack.py has the same and more with figures.
 """
 
 import argparse
@@ -33,6 +34,7 @@ sys.path.insert(0, str(pathlib.Path(__file__).resolve().parents[1]))
 
 from lib.beside import FORK, Beside
 from lib.collector import COLLECTOR, CONFIG, REPOSITORY, Collector, free_ports
+from lib.needs import ends_cleanly, wants
 from lib.peers_protocol import ACK as ACKNOWLEDGED, DEFINE as DEFINITION, SWITCH, UPDATES
 from lib.peers_protocol import Feeder, message, messages, put_int
 from lib.report import Report
@@ -49,6 +51,9 @@ DEFINE = bytes.fromhex("0a820d01") + b"\x07clients" + bytes.fromhex("04040400")
 UPDATE = bytes.fromhex("0a8009000000010a00000105")
 ACK = bytes.fromhex("0a84050100000001")
 TOLD = (DEFINITION, SWITCH, *UPDATES)
+# What is answered to `x`, `prompt`, `x`, `prompt` and `x`.
+PROMPTED = (b"refused 2 Unknown\n\n" b"\n> " b'refused 2 Unknown: "x" is no command; see help\n\n> ' b"\n"
+            b"refused 2 Unknown\n\n")
 
 
 def call(port, data=b"", timeout=5):
@@ -290,6 +295,8 @@ def admins(report, collector):
                  said(b"show filter abusers\r\n", pieces=10) == one else "other bytes")
     report.check("a last line without an end is dropped", 1, lambda: "" if
                  said(b"show filter abusers\nshow fil") == one else "other bytes")
+    report.check("behind `prompt` a refusal says why, and a prompt follows; behind a second one all is as before", 1,
+                 lambda: "" if said(b"x\nprompt\nx\nprompt\nx\n") == PROMPTED else said(b"x\nprompt\nx\nprompt\nx\n"))
     before = collector.resident()
     long = said(b"x" * 10_000_000 + b"\nshow filter abusers\n")
     report.check("a line of 10 MB is refused, and the next one is answered", 1, lambda: "" if
@@ -542,7 +549,7 @@ def checking(report, options):
     explained = (b"config line 2, word 2 is missing: expected a name; write: peer <name>\n"
                  b"config line 3, word 6 \"1x\": expected a number of 1 to 20 digits" + form +
                  b"config line 5: the name stands already, or a column or rows twice; "
-                 b"a pushed filter has no table's name\n")
+                 b"a pushed filter and an ignored table have no table's name\n")
     report.check("every faulty line is told and explained", 1,
                  lambda: "" if run(["check"], faulty) == (3, wanted, explained) else run(["check"], faulty))
     status, printed, told = run(["check", "--config", "/nowhere/fleet.conf"])
@@ -772,6 +779,47 @@ def floods(report, options):
         report.check(f"500 {name} write few lines", 1, lambda: "" if len(lines) < 260 else f"{len(lines)} lines")
 
 
+def ended_by_reset(level, name):
+    """How the log tells that a proxy reset its connection."""
+    return (rf'\S+ {level} peer ended peer={name} address=127\.0\.0\.1:\d+ updates=0 cause="read failed" '
+            r'error="Connection reset by peer"')
+
+
+def resets(report, options):
+    """A proxy that resets its connection is told of once it is back, or isn't within 10 s."""
+    text = config(["p", "q", "r"])
+    with tempfile.NamedTemporaryFile() as log, Collector.of(options.collector, text, log=log) as collector:
+        def lines():
+            return pathlib.Path(log.name).read_text().splitlines()
+
+        def is_told(wanted):
+            return "" if any(re.fullmatch(wanted, line) for line in lines()) else lines()
+
+        def connect(name):
+            peer = call(collector.peers, hello(name))
+            read(peer, len(ACCEPTED))
+            return peer
+
+        for name in (b"p", b"q"):
+            reset(connect(name))
+        connect(b"r").close()
+        start = time.monotonic()
+        report.check("a proxy that closes is told of at once, as info", 1,
+                     lambda: is_told(r"\S+ info peer disconnected peer=r address=\S+ updates=0"))
+        time.sleep(1)
+        report.check("one that resets isn't, until it calls again", 1,
+                     lambda: [line for line in lines() if " ended " in line])
+        back = connect(b"p")
+        report.check("then it is told as info", 1, lambda: is_told(ended_by_reset("info", "p")))
+        time.sleep(max(0, start + 9 - time.monotonic()))
+        report.check("nothing is told of one that hasn't called for 9 s", 1,
+                     lambda: [line for line in lines() if "peer=q" in line and " ended " in line])
+        report.check("and it is told as a warning behind 10 s", 3, lambda: is_told(ended_by_reset("warn", "q")))
+        report.check("each once", 1,
+                     lambda: "" if sum("reset by peer" in line for line in lines()) == 2 else lines())
+        back.close()
+
+
 PUSHING = """name agg
 peer feeder
 peer lb1
@@ -863,8 +911,8 @@ def misbehaving(report, collector, feeder, proxy):
                  lambda: "" if collector.resident() < 120_000_000 else collector.resident())
 
 
-PARTS = (scarce, starving, browsers, standing, closed_streams, threadless, socket_modes, floods, elsewhere, unknown,
-         mute, broken, pushing, checking, surroundings)
+PARTS = (scarce, starving, browsers, standing, closed_streams, threadless, socket_modes, floods, resets, elsewhere,
+         unknown, mute, broken, pushing, checking, surroundings)
 
 
 def main():
@@ -873,8 +921,8 @@ def main():
     words.add_argument("--only", choices=[part.__name__ for part in PARTS], action="append",
                        help="one of the parts that start collectors of their own; may be repeated")
     options = words.parse_args()
-    # A shell that starts this in the background lets it ignore SIGINT, and so would the collectors that it starts.
-    signal.signal(signal.SIGINT, signal.default_int_handler)
+    wants(program=options.collector)
+    ends_cleanly()
     resource.setrlimit(resource.RLIMIT_NOFILE, (4096, resource.getrlimit(resource.RLIMIT_NOFILE)[1]))
     report = Report()
     if not options.only:

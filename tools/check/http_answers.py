@@ -31,6 +31,7 @@ import urllib.parse
 sys.path.insert(0, str(pathlib.Path(__file__).resolve().parents[1]))
 
 from lib.collector import COLLECTOR, Collector, free_ports
+from lib.needs import ends_cleanly, wants
 from lib.peers_protocol import DEFINE, UPDATE, beat, message, put_int
 from lib.report import Report
 
@@ -538,6 +539,8 @@ def main():
     words.add_argument("--collector", default=COLLECTOR, help="the program that is checked")
     words.add_argument("--quick", action="store_true", help="leave out what waits for ten seconds and more")
     options = words.parse_args()
+    wants(program=options.collector)
+    ends_cleanly()
     resource.setrlimit(resource.RLIMIT_NOFILE, (4096, resource.getrlimit(resource.RLIMIT_NOFILE)[1]))
     report = Report()
     peers, admin, port = free_ports(3)

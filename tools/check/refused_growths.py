@@ -1,12 +1,13 @@
 #!/usr/bin/env python3
-"""Lets allocations of the programs that the gate built fail, one in each run, and looks at what they print.
+"""Lets allocations of the programs that the gate built fail, one or three in each run, and looks at what they print.
 
     tools/check/refused_growths.py [--only NAME].. [--every] [--list]
 
 The programs are those of RUNS, at crates/NAME/out/NAME, where `rt ci` leaves them; ./test runs this behind it. Each
 program runs once with all the memory that it asks for, and then again and again with one allocation refused: each in
 turn, or every second, third or so where it asks for more than MOST. So all of it takes some minutes; `--every` refuses
-each. An allocation is a call of malloc or realloc. A library refuses it that a C compiler makes of the text below, the
+each. Where a hub publishes, it tries twice: so to some programs three are refused in a row, and a batch stays pending.
+An allocation is a call of malloc or realloc. A library refuses it that a C compiler makes of the text below, the
 system's or the kit's. What a run with a refused allocation prints is
 
     same    what it prints with enough memory, with the same status
@@ -14,7 +15,8 @@ system's or the kit's. What a run with a refused allocation prints is
     told    a beginning of that, then a line with `NoMemory`, and then it goes on or ends
     wrong   anything else: a crash, a hang, another text. It is shown.
 
-A program passes where none is wrong and no more are cut or told than RUNS says. The last line is
+A line that begins with `again: ` is a note of the program's own: what it met. It isn't compared. A program passes
+where none is wrong, no more are cut or told than RUNS says, and notes tell all that it is to meet. The last line is
 `N passed, M failed`; the status is 1 where one failed, and 2 where a program isn't built.
 """
 
@@ -27,6 +29,7 @@ import shutil
 import subprocess
 import sys
 import tempfile
+import typing
 
 sys.path.insert(0, str(pathlib.Path(__file__).resolve().parents[1]))
 
@@ -37,17 +40,38 @@ from lib.stamp import REPOSITORY, said_by
 MOST = 250
 LONGEST = 120  # s of one run
 SCRIPTS = "crates/test_replay/data"
-# A name, the program's crate, its words, its standard input where that isn't the crate's, and how many runs may be cut
-# or told: allocations of the program's own, of which no call is made once more. Four read its words. None: any number.
+NOTE = b"again: "
+
+
+class Run(typing.NamedTuple):
+    """How a program is run, and what its runs may come to."""
+    crate: str
+    words: list | None = None  # those of the crate
+    stdin: str | None = None  # that of the crate
+    # how many runs may be cut or told, for allocations of the program's own, of which no call is made once more: four
+    # read its words; none: any number
+    most_own: int | None = None
+    most: int = MOST  # how many runs there are at most, unless each allocation is refused
+    in_a_row: int = 1  # how many allocations are refused, one behind the other
+    last: int | None = None  # only so many of the last allocations
+    meets: tuple = ()  # what the notes of some run have to tell, each of these
+
+
+WORKERS = ("a session", "a session that is told a key", "an admin who clears", "an admin who adds a filter", "a timer")
 RUNS = {
-    "hub": ("test_hub", ["again"], None, 4),
-    "books": ("test_books", ["again"], None, 4),
-    "steps": ("test_replay", ["again"], None, None),
-    "texts": ("test_texts", None, None, None),
-    "replay": ("aggregator", ["replay"], f"{SCRIPTS}/added_filters.script", None),
-    "told": ("aggregator", ["replay"], f"{SCRIPTS}/told_hold.script", None),
-    "check": ("aggregator", ["check"], "examples/fleet.conf", None),
-    "import": ("aggregator", ["import"], "examples/haproxy.cfg", None),
+    "hub": Run("test_hub", ["again"], most_own=4, meets=("NoMemory",)),
+    "pending": Run("test_hub", ["again"], most_own=4, most=1000, in_a_row=3, meets=("Pending",)),
+    "leave": Run("test_hub", ["leave"], most_own=0, in_a_row=3, last=60, meets=("Pending",)),
+    "workers": Run("test_serve", ["again"], most_own=4, most=1000, meets=tuple(f"{it}: NoMemory" for it in WORKERS)),
+    "waiting": Run("test_serve", ["again"], most_own=4, most=1000, in_a_row=3,
+                   meets=tuple(f"{it}: Pending" for it in WORKERS)),
+    "books": Run("test_books", ["again"], most_own=4),
+    "steps": Run("test_replay", ["again"]),
+    "texts": Run("test_texts"),
+    "replay": Run("aggregator", ["replay"], f"{SCRIPTS}/added_filters.script"),
+    "told": Run("aggregator", ["replay"], f"{SCRIPTS}/told_hold.script"),
+    "check": Run("aggregator", ["check"], "examples/fleet.conf"),
+    "import": Run("aggregator", ["import"], "examples/haproxy.cfg"),
 }
 
 SHIM = r"""
@@ -59,19 +83,21 @@ int open(const char *, int, ...);
 void *mmap(void *, size_t, int, int, int, long);
 
 /* (counted in a file of eight bytes, since a program may end without its destructors) */
-static long refused = -1, here = 0, *asked = &here;
+static long refused = -1, in_a_row = 1, here = 0, *asked = &here;
 
 static int refuse(void)
 {
     if (refused < 0) {
-        const char *text = getenv("REFUSED_GROWTH"), *path = getenv("ASKED_FILE");
+        const char *text = getenv("REFUSED_GROWTH"), *path = getenv("ASKED_FILE"), *row = getenv("REFUSED_IN_A_ROW");
         int file = path ? open(path, 2) : -1;
         void *found = file < 0 ? (void *)-1L : mmap(0, sizeof here, 3, 1, file, 0);
         if (found != (void *)-1L)
             asked = found;
+        in_a_row = row ? atol(row) : 1;
         refused = text ? atol(text) : 0;
     }
-    return __atomic_add_fetch(asked, 1, __ATOMIC_SEQ_CST) == refused;
+    long number = __atomic_add_fetch(asked, 1, __ATOMIC_SEQ_CST);
+    return refused > 0 && refused <= number && number < refused + in_a_row;
 }
 
 void *malloc(size_t size)
@@ -109,18 +135,20 @@ def make_shim(folder):
 class Program:
     """A built program, the folder that it runs in and what it is given, as the gate gives it."""
 
-    def __init__(self, crate, words, stdin, folder, shim):
-        top = REPOSITORY / "crates" / crate
-        self.path, self.shim, self.folder = top / "out" / crate, shim, folder / "data"
-        args, data, given = top / "args", top / "data", REPOSITORY / stdin if stdin else top / "stdin"
-        self.words = words if words is not None else args.read_text().split() if args.exists() else []
+    def __init__(self, run, folder, shim):
+        top = REPOSITORY / "crates" / run.crate
+        self.path, self.shim, self.folder = top / "out" / run.crate, shim, folder / "data"
+        args, data, given = top / "args", top / "data", REPOSITORY / run.stdin if run.stdin else top / "stdin"
+        self.words = run.words if run.words is not None else args.read_text().split() if args.exists() else []
+        self.in_a_row = run.in_a_row
         self.stdin = given.read_bytes() if given.exists() else b""
         shutil.copytree(data, self.folder) if data.exists() else self.folder.mkdir()
 
     def run(self, number, asked=None):
-        """The status and the output of a run whose allocation of this number is refused; 0 refuses none. A file counts
-        how many it asks for."""
+        """The status and the output of a run to which the allocation of this number is refused, with those behind it
+        that are refused in a row; 0 refuses none. A file counts how many it asks for."""
         environment = {"LD_PRELOAD": str(self.shim), "REFUSED_GROWTH": str(number)}
+        environment["REFUSED_IN_A_ROW"] = str(self.in_a_row)
         environment.update({"ASKED_FILE": str(asked)} if asked else {})
         try:
             ended = subprocess.run([str(self.path), *self.words], input=self.stdin, env=environment, cwd=self.folder,
@@ -135,6 +163,14 @@ class Program:
         asked.write_bytes(bytes(8))
         found = self.run(0, asked)
         return found, int.from_bytes(asked.read_bytes(), sys.byteorder)
+
+
+def split(found):
+    """A run's status and output without its notes, and the notes."""
+    status, out = found
+    lines = out.splitlines(keepends=True)
+    notes = [it for it in lines if it.startswith(NOTE)]
+    return (status, b"".join(it for it in lines if not it.startswith(NOTE))), b"".join(notes)
 
 
 def kind(full, status, out):
@@ -157,26 +193,38 @@ def place(full, out):
     return f"line {at + 1}: {lines[at:at + 2]}"
 
 
-def fault(program, name, most_own, every):
+def numbers_of(run, count, every):
+    """Which allocations are refused in turn, of so many."""
+    first = max(1, count - run.last + 1) if run.last else 1
+    return range(first, count + 1, 1 if every else -(-(count + 1 - first) // run.most))
+
+
+def fault(program, name, run, every):
     """What is wrong with a program's runs, or nothing; what they came to is printed."""
-    full, count = program.whole()
+    found, count = program.whole()
+    full, _ = split(found)
     if full[0] == "hang" or full[0] < 0 or not full[1] or not count:
         return f"with all memory it ends with {full[0]}, {len(full[1])} bytes and {count} allocations"
-    numbers = range(1, count + 1, 1 if every else -(-count // MOST))
-    counts, wrong = collections.Counter(), []
+    numbers = numbers_of(run, count, every)
+    counts, wrong, notes = collections.Counter(), [], set()
     with concurrent.futures.ThreadPoolExecutor(len(os.sched_getaffinity(0))) as pool:
-        for number, (status, out) in zip(numbers, pool.map(program.run, numbers)):
-            found = kind(full, status, out)
-            counts[found] += 1
-            if found == "wrong":
+        for number, found in zip(numbers, pool.map(program.run, numbers)):
+            (status, out), told = split(found)
+            it = kind(full, status, out)
+            counts[it] += 1
+            notes.update(told.splitlines())
+            if it == "wrong":
                 wrong.append(f"allocation {number}: status {status}, {place(full, out)}")
-    told = ", ".join(f"{counts[it]} {it}" for it in ("same", "cut", "told", "wrong") if counts[it])
-    print(f"        {name}: {len(numbers)} of {count} allocations refused in turn: {told}", flush=True)
+    came = ", ".join(f"{counts[it]} {it}" for it in ("same", "cut", "told", "wrong") if counts[it])
+    row = f", {run.in_a_row} in a row" if run.in_a_row > 1 else ""
+    print(f"        {name}: {len(numbers)} of {count} allocations refused in turn{row}: {came}", flush=True)
     own = counts["cut"] + counts["told"]
     if wrong:
         return "; ".join(wrong[:3])
-    is_fine = most_own is None or own <= most_own
-    return "" if is_fine else f"{own} aren't as with enough memory, of at most {most_own}"
+    if run.most_own is not None and own > run.most_own:
+        return f"{own} aren't as with enough memory, of at most {run.most_own}"
+    lacking = [it for it in run.meets if not any(it.encode() in note for note in notes)]
+    return f"no run met {', '.join(lacking)}" if lacking else ""
 
 
 def main():
@@ -187,9 +235,10 @@ def main():
     options = words.parse_args()
     chosen = {name: RUNS[name] for name in options.only or RUNS}
     if options.list:
-        print("\n".join(f"{name:8} {' '.join([it[0], *(it[1] or [])])}" for name, it in chosen.items()))
+        print("\n".join(f"{name:8} {' '.join([it.crate, *(it.words or [])])}" for name, it in chosen.items()))
         return
-    missing = {it[0] for it in chosen.values() if not os.access(REPOSITORY / f"crates/{it[0]}/out/{it[0]}", os.X_OK)}
+    crates = {it.crate for it in chosen.values()}
+    missing = {it for it in crates if not os.access(REPOSITORY / f"crates/{it}/out/{it}", os.X_OK)}
     if missing:
         print(f"not built: {' '.join(sorted(missing))}: ./test builds and proves them", file=sys.stderr)
         sys.exit(2)
@@ -198,10 +247,10 @@ def main():
     with tempfile.TemporaryDirectory() as folder:
         top = pathlib.Path(folder)
         shim = make_shim(top)
-        for name, (crate, given, stdin, most_own) in chosen.items():
+        for name, run in chosen.items():
             (top / name).mkdir()
-            program = Program(crate, given, stdin, top / name, shim)
-            report.tell(f"refused allocations: {name}", fault(program, name, most_own, options.every))
+            program = Program(run, top / name, shim)
+            report.tell(f"refused allocations: {name}", fault(program, name, run, options.every))
     report.end()
 
 

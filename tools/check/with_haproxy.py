@@ -1,14 +1,14 @@
 #!/usr/bin/env python3
 """Checks the collector against real proxies, and says line by line what passed.
 
-    tools/check/with_haproxy.py [--collector crates/aggregator/out/aggregator] [--threads 1] [--only NAME]
+    tools/check/with_haproxy.py [--collector crates/aggregator/out/aggregator] [--threads 1] [--log FILE]
 
-It starts `aggregator listen` and Debian's haproxy as two proxies of one fleet (examples/haproxy.cfg), and sends
-requests of overlapping clients through both. It compares sums with those of the proxies' own `show table`, a
-filter's set and a ranked list with what these say, and the end of a row with the proxies' own. It does so again
-after a proxy was killed and came back, after a reload of a master with workers, and after the collector was
-started again. It wants haproxy and a built program. The last line counts passed and failed; the status is 1 where
-one failed, and 2 where something is missing.
+It starts `aggregator listen` and haproxy, or the environment's HAPROXY, as two proxies of one fleet
+(examples/haproxy.cfg), and sends requests of overlapping clients through both. It compares sums with those of
+the proxies' own `show table`, a filter's set and a ranked list with what these say, and the end of a row with
+the proxies' own. It does so again after a proxy was killed and came back, after a reload of a master with
+workers, and after the collector was started again. It wants haproxy and a built program. The last line counts
+passed and failed; the status is 1 where one failed, and 2 where something is missing.
 """
 
 import argparse

@@ -36,7 +36,10 @@ RATES = {
     3: "gpc0_rate", 5: "conn_rate", 8: "sess_rate", 10: "http_req_rate", 12: "http_err_rate", 14: "bytes_in_rate",
     16: "bytes_out_rate", 18: "gpc1_rate", 21: "http_fail_rate", 26: "glitch_rate",
 }
-OTHERS = {19: "server_key", 22: "gpt", 23: "gpc", 24: "gpc_rate"}
+SERVER_KEY, GPT, GPC, GPC_RATE = 19, 22, 23, 24
+ARRAYS = {GPT: "gpt", GPC: "gpc", GPC_RATE: "gpc_rate"}
+OTHERS = {SERVER_KEY: "server_key", **ARRAYS}
+MOST_ELEMENTS = 100
 UPDATE, INCREMENTAL, DEFINE, SWITCH, ACK, TIMED, TIMED_INCREMENTAL = range(0x80, 0x87)
 KINDS = {UPDATE: "update", INCREMENTAL: "incremental", TIMED: "timed update", TIMED_INCREMENTAL: "timed incremental"}
 
@@ -86,6 +89,12 @@ def shown(text, first=33):
     return text if len(text) <= 40 else f"{text[:28]}.. ({len(text)} long)"
 
 
+def rate(fields):
+    """A rate, as a person reads it."""
+    elapsed, current, previous = fields.number(), fields.number(), fields.number()
+    return f"{current}+{previous} {elapsed} ms in"
+
+
 def columns(bits):
     """The data types of a definition, in order."""
     return [kind for kind in range(64) if bits >> kind & 1]
@@ -97,22 +106,41 @@ class Table:
     def __init__(self, fields):
         self.number, self.name = fields.number(), fields.take(fields.number())
         self.kind, self.length, self.bits, self.expiry = (fields.number() for _ in range(4))
-        self.periods = {}
+        self.periods, self.counts = {}, {}
         try:
-            while not fields.is_over():
-                kind = fields.number()
-                self.periods[kind] = fields.number()
+            while self.takes(fields):
+                pass
         except Cut:
             pass
+
+    def takes(self, fields):
+        """Whether another parameter stands behind the expiry, which is kept."""
+        kind, value = fields.number(), fields.number()
+        period = fields.number() if kind == GPC_RATE else 0
+        if max(value, period) >= 2**64:
+            return False
+        if kind == GPC_RATE:
+            self.periods[kind] = period
+        if kind in ARRAYS:
+            self.counts[kind] = value
+        elif kind > 26 or kind == SERVER_KEY:
+            return False
+        else:
+            self.periods[kind] = value
+        return True
+
+    def named(self, kind):
+        """The name of a data type, with its parameters."""
+        name = COUNTS.get(kind) or RATES.get(kind) or OTHERS.get(kind) or f"type {kind}"
+        period = [str(self.periods.get(kind, "?"))] if kind in RATES or kind == GPC_RATE else []
+        count = [str(self.counts.get(kind, "?"))] if kind in ARRAYS else []
+        return f"{name}({','.join(count + period)})" if count or period else name
 
     def __str__(self):
         kind = KEY_KINDS.get(self.kind, f"type {self.kind}")
         if self.kind in (6, 7):
             kind = f"{kind} len {self.length}"
-        names = []
-        for data in columns(self.bits):
-            name = COUNTS.get(data) or RATES.get(data) or OTHERS.get(data) or f"type {data}"
-            names.append(f"{name}({self.periods.get(data, '?')})" if data in RATES else name)
+        names = [self.named(data) for data in columns(self.bits)]
         life = f", rows live {self.expiry} ms" if self.expiry else ""
         return f"{shown(self.name)} ({self.number}): {', '.join([kind, *names])}{life}"
 
@@ -132,15 +160,26 @@ class Table:
         """The values behind a key, by name."""
         said = []
         for data in columns(self.bits):
-            if data in RATES:
-                elapsed, current, previous = fields.number(), fields.number(), fields.number()
-                said.append(f"{RATES[data]}={current}+{previous} {elapsed} ms in")
-            elif data in COUNTS or data < 19:
-                said.append(f"{COUNTS.get(data, data)}={fields.number()}")
-            else:
-                said.append("..")
-                break
+            if data > 26 or data in ARRAYS and not 1 <= self.counts.get(data, 0) <= MOST_ELEMENTS:
+                return [*said, ".."]
+            try:
+                value = self.value(data, fields)
+            except Cut:
+                # Whether these are needed hangs on the collector's table.
+                if data < SERVER_KEY:
+                    raise
+                return [*said, ".."]
+            said.append(f"{COUNTS.get(data) or RATES.get(data) or OTHERS[data]}={value}")
         return said
+
+    def value(self, kind, fields):
+        """The value of a data type."""
+        if kind == SERVER_KEY:
+            return shown(fields.take(fields.number())) or "(none)"
+        if kind not in ARRAYS:
+            return rate(fields) if kind in RATES else fields.number()
+        elements = [str(rate(fields) if kind == GPC_RATE else fields.number()) for _ in range(self.counts[kind])]
+        return ",".join(elements if len(elements) <= 4 else [*elements[:3], "..", elements[-1]])
 
 
 class Talk:

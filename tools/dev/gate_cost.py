@@ -17,6 +17,10 @@ import subprocess
 import sys
 import time
 
+sys.path.insert(0, str(pathlib.Path(__file__).resolve().parents[1]))
+
+from lib.needs import wants
+
 TICK = os.sysconf("SC_CLK_TCK")
 KINDS = ("proof", "tests", "edits", "program")
 MARKS = ("<!-- tools/dev/gate_cost.py writes from here -->\n", "<!-- up to here -->\n")
@@ -93,6 +97,7 @@ def main():
     words.add_argument("--page", type=pathlib.Path)
     words.add_argument("command", nargs="*")
     options = words.parse_args()
+    wants(*(options.command or ["rt"])[:1])
     start, spent, names, owners = time.time(), {}, {}, {}
     with open(options.out, "wb") as log:
         process = subprocess.Popen(options.command or ["rt", "ci"], stdout=log, stderr=subprocess.STDOUT)

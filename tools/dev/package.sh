@@ -24,7 +24,7 @@ for need in dpkg-deb gzip git python3; do
     command -v "$need" > /dev/null || missing="$missing $need"
 done
 [ -z "$missing" ] || { echo "missing:$missing (apt-get install dpkg gzip git python3)" >&2; exit 2; }
-[ -x "$program" ] || { echo "$program isn't built: ./build proves and links it" >&2; exit 1; }
+[ -x "$program" ] || { echo "$program isn't built: ./build proves and links it" >&2; exit 2; }
 why=$(PYTHONPATH=tools python3 -c '
 import pathlib, sys
 from lib import stamp
@@ -57,12 +57,22 @@ put_zipped() { # file, its place in the package
     mkdir -p "$tree/$(dirname "$2")"
     gzip -9n < "$1" > "$tree/$2.gz"
 }
-put 755 "$program" usr/bin/aggregator
+# The program stands beside its stamp, in which it finds its commit.
+put 755 "$program" usr/lib/sesamejoist/aggregator
+put 644 "$program.stamp" usr/lib/sesamejoist/aggregator.stamp
+mkdir -p "$tree/usr/bin"
+ln -s ../lib/sesamejoist/aggregator "$tree/usr/bin/aggregator"
 put 644 packaging/sesamejoist.service usr/lib/systemd/system/sesamejoist.service
 put 644 packaging/sesamejoist.default etc/default/sesamejoist
 put 644 packaging/fleet.conf etc/sesamejoist/fleet.conf
 put 644 packaging/aggregator.bash usr/share/bash-completion/completions/aggregator
 put_zipped packaging/aggregator.8 usr/share/man/man8/aggregator.8
+# The script that asks, in the folders in which it finds what it imports, and a name for it on the path.
+for file in tools/try/ask.py tools/lib/__init__.py tools/lib/asking.py; do
+    put 644 "$file" "usr/lib/sesamejoist/${file#tools/}"
+done
+chmod 755 "$tree/usr/lib/sesamejoist/try/ask.py"
+ln -s ../lib/sesamejoist/try/ask.py "$tree/usr/bin/sesamejoist-ask"
 doc=usr/share/doc/sesamejoist
 put_zipped CHANGELOG.md $doc/changelog
 put 644 README.md $doc/README.md
@@ -85,6 +95,7 @@ Priority: optional
 Architecture: amd64
 Maintainer: ${MAINTAINER:-$(git log -1 --format='%an <%ae>')}
 Depends: libc6${libc:+ (>= $libc)}
+Recommends: python3
 Suggests: haproxy, netcat-openbsd
 Installed-Size: $size
 Description: collector for the stick tables of a fleet of HAProxy proxies

@@ -28,6 +28,7 @@ import time
 sys.path.insert(0, str(pathlib.Path(__file__).resolve().parents[1]))
 
 from lib import stamp
+from lib.needs import wants
 
 REPOSITORY = stamp.REPOSITORY
 NAME = "aggregator"
@@ -236,9 +237,7 @@ def main():
     signal.signal(signal.SIGTERM, lambda *_: sys.exit(143))
     # A shell that starts this in the background lets it ignore SIGINT.
     signal.signal(signal.SIGINT, signal.default_int_handler)
-    if not shutil.which("rt"):
-        print("rt, the command of the Rattle kit that README.md names, isn't on the path.", file=sys.stderr)
-        return 1
+    wants("rt")
     try:
         return (prove_all if options.what == "all" else prove_program)(options)
     except KeyboardInterrupt:

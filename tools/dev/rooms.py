@@ -17,8 +17,7 @@ import sys
 MOST = 120
 MOST_OF_TESTS = 150
 LARGE = {
-    "peer_rows": 272, "book": 284, "hub": 215, "agg_types": 215,
-    "place_index": 154, "telling": 148, "session_core": 146, "haproxy_import": 146, "standing_filters": 140,
+    "peer_rows": 272, "agg_types": 223, "hub": 214, "standing_filters": 140,
 }
 HEAD = re.compile(r"^\s*(?:pub(?:\([^)]*\))? )?(?:const )?(?:unsafe )?fn ", re.MULTILINE)
 

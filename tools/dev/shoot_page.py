@@ -48,6 +48,7 @@ filter abusers clients data.http_req_rate gt 1600
 filter scrapers clients data.http_req_cnt gt 40000
 rank fastest clients http_req_rate 20
 rank busiest paths http_req_cnt 10
+push abusers hold 60000
 """
 HOSTILE = '<i>&"\'</i>'
 IP, STRING = 4, 6  # types of keys in the peers protocol

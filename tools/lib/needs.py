@@ -6,7 +6,8 @@ import shutil
 import signal
 import sys
 
-PACKAGES = {"nc": "netcat-openbsd", "promtool": "prometheus", "pgrep": "procps"}
+PACKAGES = {"nc": "netcat-openbsd", "promtool": "prometheus", "pgrep": "procps", "dpkg-deb": "dpkg"}
+KIT = "rt, the command of the Rattle kit that README.md names, isn't on the path"
 BUILD = "./build proves and links it"
 
 
@@ -18,9 +19,12 @@ def found(name):
 def wants(*names, program=None):
     """Ends with status 2 and says what is missing, where a program isn't there, or the collector isn't built."""
     missing = [name for name in names if not found(name)]
-    if missing:
-        packages = sorted({PACKAGES.get(pathlib.Path(name).name, pathlib.Path(name).name) for name in missing})
-        print(f"missing: {' '.join(missing)} (apt-get install {' '.join(packages)})", file=sys.stderr)
+    in_debian = [name for name in missing if name != "rt"]
+    if in_debian:
+        packages = sorted({PACKAGES.get(pathlib.Path(name).name, pathlib.Path(name).name) for name in in_debian})
+        print(f"missing: {' '.join(in_debian)} (apt-get install {' '.join(packages)})", file=sys.stderr)
+    if "rt" in missing:
+        print(KIT, file=sys.stderr)
     if program is not None and not os.access(program, os.X_OK):
         print(f"{program} isn't built: {BUILD}", file=sys.stderr)
         missing.append(str(program))

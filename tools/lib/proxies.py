@@ -24,14 +24,15 @@ SETTLED = 8.0  # s in which a proxy calls a peer again (it waits 5 s) and pushes
 class Proxy:
     """A HAProxy of examples/haproxy.cfg that pushes to a collector."""
 
-    def __init__(self, name, collector_port, folder, config=PROXY, threads=1, master=False, program=HAPROXY):
+    def __init__(self, name, collector_port, folder, config=PROXY, threads=1, master=False, program=HAPROXY, **more):
+        """Starts one; `more` are further variables of its environment."""
         self.name, self.folder = name, pathlib.Path(folder)
         self.own, self.http = free_ports(2)
         self.words = [program, "-L", name, "-f", str(config)]
         self.words += ["-W", "-S", str(self.folder / f"{name}-master.sock")] if master else ["-db"]
         self.environment = dict(os.environ, DIR=str(folder), OWN_PORT=str(self.own))
         self.environment.update(COLLECTOR_PORT=str(collector_port), HTTP_PORT=str(self.http))
-        self.environment.update(THREADS=str(threads))
+        self.environment.update(THREADS=str(threads), **more)
         self.start()
 
     def start(self):

@@ -16,8 +16,8 @@ missing=
 for need in python3 curl "${HAPROXY:-haproxy}"; do
     command -v "$need" > /dev/null || missing="$missing $need"
 done
-[ -z "$missing" ] || { echo "missing:$missing (apt-get install haproxy curl python3)" >&2; exit 1; }
-[ -x "$collector" ] || { echo "$collector isn't built: ./build proves and links it" >&2; exit 1; }
+[ -z "$missing" ] || { echo "missing:$missing (apt-get install haproxy curl python3)" >&2; exit 2; }
+[ -x "$collector" ] || { echo "$collector isn't built: ./build proves and links it" >&2; exit 2; }
 DIR=$(mktemp -d)
 # (free ones: the two collectors' for peers and for questions, and each proxy's own and its frontend's)
 set -- $(PYTHONPATH=tools python3 -c 'from lib.collector import free_ports; print(*free_ports(8))')
