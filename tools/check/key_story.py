@@ -129,10 +129,10 @@ def released(report, collector, proxies):
     report.check("all three serve it again", 2, lambda: not_all(proxies, KEY, 200))
 
 
-def out_of_order(log):
-    """What of the story doesn't stand in the log, once and in its order."""
+def out_of_order(log, story):
+    """What of a story doesn't stand in the log, once and in its order."""
     lines, at = log.read_text().splitlines(), -1
-    for wanted in STORY:
+    for wanted in story:
         places = [place for place, line in enumerate(lines) if re.fullmatch(wanted, line)]
         if len(places) != 1 or places[0] <= at:
             return f"{wanted}: in lines {places}"
@@ -159,8 +159,10 @@ def main():
                      lambda: collector.ask("show peers").count("state=connected") == len(NAMES))
             crosses(report, collector, proxies)
             found(report, collector, folder)
+            # (the log looks once a second, and tells a key's values of that moment)
+            report.check("the log tells that it came", 3, lambda: out_of_order(path, STORY[:1]))
             released(report, collector, proxies)
-            report.check("the whole story stands in the log with times, in its order", 3, lambda: out_of_order(path))
+            report.check("the whole story stands in the log with times, in its order", 3, lambda: out_of_order(path, STORY))
             time.sleep(0.2)
             print("".join(f"        {line}\n" for line in path.read_text().splitlines()), end="")
         finally:
