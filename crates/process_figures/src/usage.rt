@@ -24,10 +24,12 @@ pub trait Usage {
     fn descriptors(&self) -> Option<u64>;
 }
 
-// The word at a place of what Linux tells of the process, as a number.
+// The word at a place of what Linux tells of the process, as a number. The words are counted from
+// the second one: the program's name in parentheses, which may have spaces.
 fn of_process(rt: &HostRuntime, place: usize) -> Option<u64> {
     let text = fs::read_to_string(rt, "/proc/self/stat").ok()?;
-    text.as_str().split(' ').nth(place)?.parse().ok()
+    let (_name, words) = text.as_str().rsplit_once(')')?;
+    words.split(' ').nth(place)?.parse().ok()
 }
 
 // When the machine began, in seconds since 1970.
@@ -49,17 +51,17 @@ impl Usage for HostRuntime {
         Some(pages.saturating_mul(PAGE))
     }
 
-    // The 14th and the 15th word: the time in the program and that in the system, for it.
+    // The 14th and the 15th word of all: the time in the program and that in the system, for it.
     fn worked(&self) -> Option<u64> {
-        let own = of_process(self, 13)?;
-        let system = of_process(self, 14)?;
+        let own = of_process(self, 12)?;
+        let system = of_process(self, 13)?;
         Some(own.saturating_add(system).saturating_mul(TICK))
     }
 
-    // The 22nd word: the ticks from the machine's start on.
+    // The 22nd word of all: the ticks from the machine's start on.
     fn began(&self) -> Option<u64> {
         let machine = machine_began(self)?.saturating_mul(1000);
-        let ticks = of_process(self, 21)?;
+        let ticks = of_process(self, 20)?;
         Some(machine.saturating_add(ticks.saturating_mul(TICK)))
     }
 
