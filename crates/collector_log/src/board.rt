@@ -38,6 +38,9 @@ struct Tally {
     seat: AtomicU64,
     // how many keys of each pushed table its newest session has told it
     told: Vec<AtomicU64>,
+    // the moment at which that session had last told all, in ms, and one; when it began, before it
+    // did; 0 where it is over, or none came
+    told_at: AtomicU64,
 }
 
 impl Tally {
@@ -53,15 +56,26 @@ impl Tally {
             learned: AtomicU64::new(0),
             seat: AtomicU64::new(0),
             told,
+            told_at: AtomicU64::new(0),
         })
     }
 
-    // A session with a seat is the newest one, or that is over where it was: nothing is told.
-    fn begin(&self, seat: u64) {
+    // A session with a seat is the newest one since a moment, in ms, or that is over where it was:
+    // nothing is told.
+    fn begin(&self, seat: u64, now: Option<u64>) {
         self.seat.store(seat, Ordering::SeqCst);
         for told in self.told.as_slice() {
             told.store(0, Ordering::SeqCst);
         }
+        self.told_at.store(and_one(now), Ordering::SeqCst);
+    }
+
+    // When all was told, in ms; none where nothing is pushed, and while no session is there.
+    fn told_at(&self) -> Option<u64> {
+        if self.told.is_empty() {
+            return None;
+        }
+        self.told_at.load(Ordering::SeqCst).checked_sub(1)
     }
 
     // How many keys of a pushed table are told, by the place of its line.
@@ -82,11 +96,11 @@ impl Tally {
     }
 }
 
-// The seat of a session, and one; 0 where it has none.
-fn seat_of(seat: Option<u64>) -> u64 {
-    match seat {
+// A seat or a moment, and one; 0 where there is none.
+fn and_one(number: Option<u64>) -> u64 {
+    match number {
         None => 0,
-        Some(seat) => seat.saturating_add(1),
+        Some(number) => number.saturating_add(1),
     }
 }
 
@@ -103,9 +117,10 @@ pub struct Totals {
 
 /// What stands of each peer, and what was counted.
 ///
-/// What a session posts is counted without a lock. A lock is held for a few fields, never while
-/// anything is waited for or written. That of what sessions taught is held longer, to copy 1,000
-/// keys once a second, and to compare as many with one another once a session and table.
+/// What a session posts is counted without a lock. For a piece with updates of followed tables it
+/// takes that of what sessions taught, to add two numbers. A lock is held for a few fields, never
+/// while anything is waited for or written. That of what sessions taught is held longer, to copy
+/// 1,000 keys once a second, and to compare as many with one another once a session and table.
 #[derive(Drop)]
 pub struct Board {
     alloc: Global,
@@ -160,12 +175,12 @@ impl Board {
         now: u64,
     ) {
         if let Some(tally) = self.tallies.as_slice().get(peer) {
-            tally.begin(seat_of(seat));
+            tally.begin(and_one(seat), Some(now));
         }
         {
             let mut guard = self.sessions.lock(rt);
             let sessions = &mut *guard;
-            sessions.begin(peer, seat_of(seat));
+            sessions.begin(peer, and_one(seat));
         }
         let mut guard = self.peers.lock(rt);
         let peers = &mut *guard;
@@ -181,14 +196,14 @@ impl Board {
     /// A connection of a peer is over at a moment, in ms, whose session had this seat.
     pub fn go<R: Wait>(&self, rt: &R, peer: usize, seat: Option<u64>, now: u64) {
         if let Some(tally) = self.tallies.as_slice().get(peer)
-            && tally.seat.load(Ordering::SeqCst) == seat_of(seat)
+            && tally.seat.load(Ordering::SeqCst) == and_one(seat)
         {
-            tally.begin(0);
+            tally.begin(0, None);
         }
         {
             let mut guard = self.sessions.lock(rt);
             let sessions = &mut *guard;
-            sessions.end(peer, seat_of(seat));
+            sessions.end(peer, and_one(seat));
         }
         let mut guard = self.peers.lock(rt);
         let peers = &mut *guard;
@@ -228,7 +243,7 @@ impl Board {
         }
         let mut guard = self.sessions.lock(rt);
         let sessions = &mut *guard;
-        sessions.count(peer, seat_of(seat), table, own, learned);
+        sessions.count(peer, and_one(seat), table, own, learned);
     }
 
     /// A peer's session with this seat taught rows of these keys that the peer had learned.
@@ -242,7 +257,7 @@ impl Board {
     ) {
         let mut guard = self.sessions.lock(rt);
         let sessions = &mut *guard;
-        sessions.hear(peer, seat_of(seat), table, keys);
+        sessions.hear(peer, and_one(seat), table, keys);
     }
 
     /// The next peer whose present session may teach what another one's teaches.
@@ -264,10 +279,19 @@ impl Board {
     /// older session tells beside a newer one counts for nothing.
     pub fn tell(&self, peer: usize, seat: Option<u64>, pushed: usize, keys: u64) {
         if let Some(tally) = self.tallies.as_slice().get(peer)
-            && tally.seat.load(Ordering::SeqCst) == seat_of(seat)
+            && tally.seat.load(Ordering::SeqCst) == and_one(seat)
             && let Some(told) = tally.told.as_slice().get(pushed)
         {
             told.store(keys, Ordering::SeqCst);
+        }
+    }
+
+    /// A peer's session with this seat has told all at a moment, in ms.
+    pub fn tell_all(&self, peer: usize, seat: Option<u64>, now: u64) {
+        if let Some(tally) = self.tallies.as_slice().get(peer)
+            && tally.seat.load(Ordering::SeqCst) == and_one(seat)
+        {
+            tally.told_at.store(now.saturating_add(1), Ordering::SeqCst);
         }
     }
 
@@ -367,7 +391,7 @@ impl Board {
             unfollowed: standing.tables.count_unknown(),
             told: tally.told(),
             learned: tally.learned.load(Ordering::SeqCst),
-            told_at: None,
+            told_at: tally.told_at(),
         })
     }
 

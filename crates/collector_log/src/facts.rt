@@ -33,10 +33,9 @@ impl<'a, R: Clock + Wait> CollectorFacts<'a, R> {
     fn peers(&self) -> Result<Vec<PeerStanding>, NoMemory> {
         let mut peers = Vec::new(self.alloc);
         for place in 0..self.config.peers.len() {
-            let Some(mut peer) = self.board.peer(&self.clock.rt, place) else {
+            let Some(peer) = self.board.peer(&self.clock.rt, place) else {
                 break;
             };
-            peer.told_at = self.connections.last_round(&self.clock.rt, place);
             peers.push(peer)?;
         }
         Ok(peers)

@@ -12,8 +12,8 @@ use std::io::Write;
 use std::sync::Wait;
 use worker_frame::{Clock, Context, Gate};
 
-// Makes a turn over the pushed tables where that is due, and tells the gate what is told then: the
-// peer's hello was accepted, and the last turn is a while ago and has nothing more to say.
+// Makes a turn over the pushed tables where that is due: the peer's hello was accepted, and the
+// last turn is a while ago and has nothing more to say.
 fn make_turn<J: Naming, H: Wait + Drop, R: Wait + std::rt::Clock, C: Clock, G: Gate>(
     context: &Context<'_, J, H, R, C, G>,
     worker: &mut Worker,
@@ -29,7 +29,6 @@ fn make_turn<J: Naming, H: Wait + Drop, R: Wait + std::rt::Clock, C: Clock, G: G
     if peer.is_none() {
         return;
     }
-    let place = worker.place();
     let Some(pushing) = &mut worker.pushing else {
         return;
     };
@@ -38,11 +37,10 @@ fn make_turn<J: Naming, H: Wait + Drop, R: Wait + std::rt::Clock, C: Clock, G: G
     }
     pushing.equip(context.rt, context.hub);
     pushing.turn(context.alloc, &worker.poster, now);
-    pushing.report(context.gate, place, peer);
 }
 
 // Makes a turn where one is due, and writes the next pieces of what is unsaid. The others
-// follow behind the next read.
+// follow behind the next read. Behind the last one the gate is told what is told.
 fn tell<J: Naming, H: Wait + Drop, R: Wait + std::rt::Clock, C: Clock, G: Gate, W: Write>(
     context: &Context<'_, J, H, R, C, G>,
     worker: &mut Worker,
@@ -58,10 +56,12 @@ fn tell<J: Naming, H: Wait + Drop, R: Wait + std::rt::Clock, C: Clock, G: Gate, 
         → HearsAt now worker.old.session worker.new.session result }
 {
     make_turn(context, worker, now);
+    let (place, peer) = (worker.place(), worker.session.peer());
     let Some(pushing) = &mut worker.pushing else {
         return Ok(());
     };
     let count = pushing.write(writer)?;
+    pushing.report(context.gate, place, peer);
     worker.pulse.wrote(count, now);
     Ok(())
 }

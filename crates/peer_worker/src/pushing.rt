@@ -43,6 +43,8 @@ pub struct Pushing {
     made: Option<u64>,
     // how many events the list had that the last turn was over
     told: Option<u64>,
+    // whether the last turn that was due was made
+    is_made: bool,
     // what the last turn has still to say
     unsaid: Unsaid,
     // the piece of it that is written; it has no room where nothing is unsaid
@@ -95,6 +97,7 @@ impl Pushing {
             lens: None,
             made: None,
             told: None,
+            is_made: false,
             unsaid: Unsaid::none(alloc),
             piece: Vec::new(alloc),
             reported,
@@ -139,6 +142,7 @@ impl Pushing {
         if !self.unsaid.is_done() {
             return;
         }
+        self.is_made = false;
         let Some(mut lens) = self.lens.take() else {
             return;
         };
@@ -149,14 +153,21 @@ impl Pushing {
         self.made = Some(now);
         if let Some(unsaid) = begun {
             self.unsaid = unsaid;
+            self.is_made = true;
         }
     }
 
-    /// Tells a gate how many keys of each table are told, where that isn't what it was told last.
+    /// Tells a gate that all is told, and how many keys of each table are, where that isn't what it
+    /// was told last. It tells nothing while something is unsaid, and where the last turn that was
+    /// due couldn't be made.
     pub fn report<G: Gate>(&mut self, gate: &G, place: Place, peer: Option<usize>)
         ensures { self.new ≡ self.old }
     {
-        if let Some(peer) = peer {
+        if let Some(peer) = peer
+            && self.is_made
+            && self.unsaid.is_done()
+        {
+            gate.told_all(place, peer);
             report_counts(&self.teller, &mut self.reported, gate, place, peer);
         }
     }

@@ -135,14 +135,6 @@ impl Connections {
         }
     }
 
-    /// The moment at which the connection that sits for a peer was last about to be read, in ms:
-    /// then its session has told what it had to tell.
-    pub fn last_round<R: Wait>(&self, rt: &R, peer: usize) -> Option<u64> {
-        let guard = self.lists.lock(rt);
-        let seated = guard.seated.get(&peer)?;
-        seated.stream.round.load(Ordering::SeqCst).checked_sub(1)
-    }
-
     /// Closes the connection that has waited longest, if one waits.
     pub fn make_room<R: Wait>(&self, rt: &R) -> bool {
         let mut guard = self.lists.lock(rt);

@@ -14,7 +14,6 @@ use serve::{Came, ReadFailed, Source};
 use std::alloc::Global;
 use std::io::ErrorKind;
 use std::net::SocketAddr;
-use std::sync::atomic::Ordering;
 use std::sync::{Arc, Wait};
 use std::time::Clock;
 
@@ -139,8 +138,6 @@ fn read_awake<R: Clock>(
     ensures { IsWithin result buffer.new }
 {
     let began = clock.moment();
-    let round = began.saturating_add(1);
-    stream.round.store(round, Ordering::SeqCst);
     let came = read_once(stream, buffer)?;
     if came != Came::Nothing || clock.moment().saturating_sub(began) < HELD_UP {
         return Ok(came);

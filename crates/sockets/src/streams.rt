@@ -23,8 +23,6 @@ pub struct Stream {
     way: Way,
     // 1 once a read or a write found that the other side reset it
     reset: AtomicU64,
-    /// The moment at which it was last about to be read, in ms, and one; 0 before.
-    pub(crate) round: AtomicU64,
 }
 
 impl Stream {
@@ -33,7 +31,6 @@ impl Stream {
         Stream {
             way: Way::Tcp(stream),
             reset: AtomicU64::new(0),
-            round: AtomicU64::new(0),
         }
     }
 
@@ -42,7 +39,6 @@ impl Stream {
         Stream {
             way: Way::Unix(stream),
             reset: AtomicU64::new(0),
-            round: AtomicU64::new(0),
         }
     }
 

@@ -36,7 +36,7 @@ pub enum News<'a> {
     /// of fewer where the keys have more than 64 KB, each update's told once. The table goes by its
     /// place in the configuration, as the peer does.
     Learned(usize, usize, &'a [Key]),
-    /// A peer was told so many keys of a pushed table that are told at its session's last turn. The
+    /// All that a peer was to be told was written: so many keys of a pushed table are told now. The
     /// table goes by the place of its line among those that push. Told behind the session's first
     /// turn, and whenever the number is another.
     Told(usize, usize, u64),
@@ -98,6 +98,10 @@ pub trait Gate {
     /// What happened at a place: who came and who went, once each; what was posted, defined and
     /// changed in between; and which connections weren't served.
     fn tell(&self, _place: Place, _news: News<'_>) {}
+
+    /// All that a peer's session had to tell of the pushed tables is written. It comes at each read
+    /// at which that is so. The peer goes by its place in the configuration.
+    fn told_all(&self, _place: Place, _peer: usize) {}
 
     /// Appends the answer to what an admin asks of the collector itself, each line with its LF and
     /// none empty. The book is the one of the admin's look, in which nothing may be posted.

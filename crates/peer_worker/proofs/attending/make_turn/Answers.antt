@@ -13,10 +13,10 @@ turn-requires g c =
 
 pub returns-clause-works : goal.returns-clause-works
 returns-clause-works g c =
-    rw c.report.ensures (λ seated start now w.
+    λ seated start now w.
     turn_with c.args.context.now.hub.now seated start now c.args.worker.now c.in-Some.pushing
     c.equip.new.self c.turn.new.self c.in-Some.is c.equip.ensures c.turn.ensures.tables
     c.turn.ensures.turns w
     (greeted_by c.args.context.now.hub.now seated w.turns c.args.worker.now c.peer-peer.result
     c.peer-peer.ensures.opened
-    (c.is_none.ensures ∙ ap (λ (b : Bool). not b) c.if-is_none.false) w.work))
+    (c.is_none.ensures ∙ ap (λ (b : Bool). not b) c.if-is_none.false) w.work)

@@ -30,7 +30,8 @@ returns-clause-takes g c =
     let before = g.W.Write.contents c.args.writer.now in
     let after = g.W.Write.contents c.write.new.writer in
     let at = works_same hub seated c.args.worker.now start given more before gives w in
-    works_still hub seated _ _ start (so_far more after) refl refl refl refl
+    rw c.report.ensures
+    (works_still hub seated _ _ start (so_far more after) refl refl refl refl
     (said_whole hub seated c.make_turn.new.worker start more before after c.in-Some.pushing
     c.write.new.self c.in_ok-count.count c.in-Some.is c.in_ok-count.ensures
-    (c.make_turn.ensures.works seated start (so_far more before) at))
+    (c.make_turn.ensures.works seated start (so_far more before) at)))
