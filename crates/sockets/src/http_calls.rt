@@ -4,8 +4,8 @@ use std::alloc::Global;
 use std::collections::VecDeque;
 use std::net::SocketAddr;
 
-/// How many are told in a minute.
-const MOST_TOLD: u64 = 60;
+/// How many are told in a minute: as many as the log takes of one kind from all addresses together.
+const MOST_TOLD: u64 = 600;
 
 /// A minute, in ms.
 const MINUTE: u64 = 60_000;

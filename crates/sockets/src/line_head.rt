@@ -1,5 +1,5 @@
 //! What the present command of an operator is, by how it begins: a line, or a part of one that `;`
-//! ends or begins.
+//! ends or begins. HTTP's are whole lines, and a command may have spaces before it.
 
 use crate::http_line::begins_as_http;
 
@@ -21,9 +21,9 @@ pub(crate) enum Line {
     Question,
 }
 
-// What a line is that begins so.
-fn line_of(head: &[u8]) -> Line {
-    if begins_as_http(head) {
+// What a command is that begins so, behind spaces. It may be HTTP's where it begins its line.
+fn line_of(head: &[u8], begins_line: bool) -> Line {
+    if begins_line && begins_as_http(head) {
         Line::Http
     } else if CHANGES.iter().any(|word| head.starts_with(word)) {
         Line::Change
@@ -37,12 +37,14 @@ pub(crate) fn ends_command(byte: u8) -> bool {
     byte == b'\n' || byte == b';'
 }
 
-/// The first bytes of a command that comes in pieces.
+/// The first bytes of a command that comes in pieces, behind its spaces.
 #[derive(Drop)]
 pub struct LineHead {
     bytes: [u8; HEAD],
     // how many of them came
     count: usize,
+    // whether the first of them is the first byte of its line
+    begins_line: bool,
 }
 
 impl LineHead {
@@ -51,11 +53,29 @@ impl LineHead {
         LineHead {
             bytes: [0; HEAD],
             count: 0,
+            begins_line: true,
         }
     }
 
-    // Keeps the first bytes of what came of the command.
+    // A piece without the spaces before the command.
+    fn skip_spaces<'p>(&mut self, piece: &'p [u8]) -> &'p [u8] {
+        let spaces = piece
+            .iter()
+            .position(|byte| *byte != b' ')
+            .unwrap_or(piece.len());
+        if spaces > 0 {
+            self.begins_line = false;
+        }
+        piece.get(spaces..).unwrap_or(b"")
+    }
+
+    // Keeps the first bytes of what came of the command, behind its spaces.
     fn keep(&mut self, piece: &[u8]) {
+        let piece = if self.count == 0 {
+            self.skip_spaces(piece)
+        } else {
+            piece
+        };
         let Some(room) = self.bytes.get_mut(self.count..) else {
             return;
         };
@@ -72,8 +92,12 @@ impl LineHead {
         if !ends_command(*last) {
             return None;
         }
-        let line = line_of(self.bytes.get(..self.count).unwrap_or(b""));
+        let line = line_of(
+            self.bytes.get(..self.count).unwrap_or(b""),
+            self.begins_line,
+        );
         self.count = 0;
+        self.begins_line = *last == b'\n';
         Some(line)
     }
 }

@@ -159,16 +159,16 @@ fn show_alarms<R: Print + Wait + Copy + AllocGlobal>(rt: &R) {
     journal.write_out(&handles);
 }
 
-/// Prints what is told of 63 connections that were HTTP's, at once and when a minute is over.
+/// Prints what is told of 603 connections that were HTTP's, at once and when a minute is over.
 fn show_calls<R: Print + Wait + AllocGlobal>(rt: &R) -> io::Result<()> {
     let admins = Admins::new(rt.alloc(), None, None);
-    for now in 0..63 {
+    for now in 0..603 {
         admins.note_http(rt, now, None);
     }
-    for now in [63, 59_999, 60_000] {
+    for now in [603, 59_999, 60_000] {
         let mut told = 0u64;
         let mut more = 0u64;
-        for _ in 0..100 {
+        for _ in 0..1000 {
             match admins.take_http(rt, now) {
                 None => break,
                 Some(HttpCall::From(_)) => told = told.saturating_add(1),
