@@ -180,26 +180,34 @@ impl<'h, 'j, 't, 'c, 'b, J: Naming, R: Clock + Wait + Drop> Visits
         1
     }
 
-    // Looks until the collector ends.
+    // Looks until the collector ends. Where an allocation failed before the first look it begins
+    // again behind a rest.
     fn serve(&self) {
+        for _ in 0..u64::MAX {
+            let _begun = self.watch();
+            if self.connections.are_closed() {
+                return;
+            }
+            self.rt.sleep(Duration::from_millis(REST));
+        }
+    }
+}
+
+impl<'h, 'j, 't, 'c, 'b, J: Naming, R: Clock + Wait + Drop> Watch<'h, 'j, 't, 'c, 'b, J, R> {
+    // Looks until the collector ends. None where an allocation failed before the first look.
+    fn watch(&self) -> Option<()> {
         let config = self.hub.config();
         let (peers, tables) = (config.peers.len(), config.tables.len());
-        let Ok(mut fullness) = Fullness::new(self.alloc, peers, tables) else {
-            return;
-        };
-        let Ok(mut keys) = LoggedKeys::new(self.alloc, config) else {
-            return;
-        };
-        let Ok(mut lens) = self.hub.lens(&self.rt) else {
-            return;
-        };
+        let mut fullness = Fullness::new(self.alloc, peers, tables).ok()?;
+        let mut keys = LoggedKeys::new(self.alloc, config).ok()?;
+        let mut lens = self.hub.lens(&self.rt).ok()?;
         let noted = Noted {
             rt: &self.rt,
             journal: self.journal,
         };
         for turn in 0..u64::MAX {
             if self.connections.are_closed() {
-                return;
+                break;
             }
             self.rt.sleep(Duration::from_millis(REST));
             if turn % RESTS != 0 {
@@ -214,5 +222,6 @@ impl<'h, 'j, 't, 'c, 'b, J: Naming, R: Clock + Wait + Drop> Visits
                 }
             }
         }
+        Some(())
     }
 }

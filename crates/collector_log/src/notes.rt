@@ -123,6 +123,28 @@ impl<'a, R> Notes<'a, R> {
         });
     }
 
+    // Tells of the connections whose peers reset them and aren't back in time by a moment, in ms.
+    fn tell_overdue(&self, now: u64)
+    where
+        R: Clock + Wait,
+    {
+        for _ in 0..u64::MAX {
+            let Some(reset) = self.connections.resets.take_overdue(&self.rt, now) else {
+                return;
+            };
+            self.tell_reset(reset, false);
+        }
+    }
+
+    /// Tells of all connections that peers reset, whether these may come back or not: the collector
+    /// ends.
+    pub fn tell_last(&self)
+    where
+        R: Clock + Wait,
+    {
+        self.tell_overdue(u64::MAX);
+    }
+
     // A peer's hello was accepted, of a session with this seat.
     fn came(&self, peer: usize, seat: Option<u64>)
     where
@@ -294,12 +316,7 @@ impl<'a, R: Clock + Wait + Usage> Gate for Notes<'a, R> {
         }
         let now = self.clock.moment();
         self.board.tick(&self.rt, now);
-        for _ in 0..u64::MAX {
-            let Some(reset) = self.connections.resets.take_overdue(&self.rt, now) else {
-                break;
-            };
-            self.tell_reset(reset, false);
-        }
+        self.tell_overdue(now);
         if let Some(Unasked { count, last }) = self.connections.unasked(&self.rt) {
             self.board.refuse(count);
             self.note(Event::PeersUnasked { count, last });
@@ -338,6 +355,11 @@ impl<'a, R: Clock + Wait + Usage> Gate for Notes<'a, R> {
                 }
             }
         }
+    }
+
+    fn told_all(&self, place: Place, peer: usize) {
+        self.board
+            .tell_all(peer, seat_at(place), self.clock.moment());
     }
 
     fn status(&self, book: &Book, status: Status, out: &mut Vec<u8>) -> Result<(), NoMemory> {

@@ -414,4 +414,5 @@ where
     };
     let beside = Beside::new(&web, &watch, &beats);
     serve_beside(rt, &doors, &beside, clock, hub, &notes);
+    notes.tell_last();
 }
