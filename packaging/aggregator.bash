@@ -17,7 +17,7 @@ _aggregator() {
             COMPREPLY=($(compgen -W "refuse wait" -- "$word"))
             return
             ;;
-        --peers | --admin | --http | --http-host | --from)
+        --name | --peers | --admin | --http | --http-host | --from)
             return
             ;;
     esac
@@ -26,9 +26,14 @@ _aggregator() {
             COMPREPLY=($(compgen -W "--peers --admin --admin-socket --http --http-host --from --unknown-peers --config --help" -- "$word"))
             ;;
         check)
-            COMPREPLY=($(compgen -W "--config --help" -- "$word"))
+            compopt -o filenames 2> /dev/null
+            COMPREPLY=($(compgen -W "--config --help" -- "$word") $(compgen -f -- "$word"))
             ;;
-        import | replay)
+        import)
+            compopt -o filenames 2> /dev/null
+            COMPREPLY=($(compgen -W "--name --help" -- "$word") $(compgen -f -- "$word"))
+            ;;
+        replay)
             COMPREPLY=($(compgen -W "--help" -- "$word"))
             ;;
         help)

@@ -12,10 +12,10 @@ use Rattle.clap.specs.declared.parser.matches.ArgMatches.{ArgMatches}
 use Rattle.clap.specs.declared.parser.matches.ArgMatches.TheViews.{out-SubCommand}
 use Rattle.clap.specs.declared.parser.matches.SubCommand.{SubCommand}
 use Rattle.command_line.specs.Asked.{IsNoJob, IsRefused, SaysNoAddress, SaysNoAdmin, SaysNoChoice}
-use Rattle.command_line.specs.Asked.{SaysNoHost, program}
+use Rattle.command_line.specs.Asked.{SaysNoHost, SaysTwoFiles, program}
 use Rattle.command_line.specs.declared.usage.Usage.{Usage}
 use Rattle.command_line.specs.declared.usage.Usage.TheVariants.{Words, BadAddress, NoAdmin}
-use Rattle.command_line.specs.declared.usage.Usage.TheVariants.{BadUnknownPeers, BadHost}
+use Rattle.command_line.specs.declared.usage.Usage.TheVariants.{BadUnknownPeers, BadHost, TwoFiles}
 use Rattle.command_line.specs.declared.usage.Usage.TheVariants.{NoMemory}
 use Rattle.command_line.proofs.Commands.{EntersCommand, is_plain, is_read}
 
@@ -48,10 +48,12 @@ pub is_refused : (words : List Text) (found : Option (Text × List Row)) (usage 
     → fault_of program words ≡ [] → found ≡ subcommand_of program words → IsNoJob found usage
     → IsRefused words usage
 is_refused words found (Words error) taken is none = absurd none
-is_refused words found BadAddress taken is none = (taken, subst SaysNoAddress is none)
+is_refused words found (BadAddress option) taken is none =
+    (taken, subst (SaysNoAddress option) is none)
 is_refused words found NoAdmin taken is none = (taken, subst SaysNoAdmin is none)
 is_refused words found BadUnknownPeers taken is none = (taken, subst SaysNoChoice is none)
 is_refused words found BadHost taken is none = (taken, subst SaysNoHost is none)
+is_refused words found TwoFiles taken is none = (taken, subst SaysTwoFiles is none)
 is_refused words found NoMemory taken is none = tt
 
 -- an error that clap has for the words, as it is reported
@@ -65,10 +67,11 @@ told_refused words app error (Words told) is kinds (same, other) =
           let here = subst (λ (a : App). IsAmong (kind_of error) (fault_of a words)) is among in
           subst (λ (e : Error). IsAmong (kind_of e) (fault_of program words)) (sym same) here
     ]
-told_refused words app error BadAddress is kinds told = absurd told
+told_refused words app error (BadAddress option) is kinds told = absurd told
 told_refused words app error NoAdmin is kinds told = absurd told
 told_refused words app error BadUnknownPeers is kinds told = absurd told
 told_refused words app error BadHost is kinds told = absurd told
+told_refused words app error TwoFiles is kinds told = absurd told
 told_refused words app error NoMemory is kinds told = tt
 
 -- what holds of a fault that a result has

@@ -29,9 +29,27 @@ pub record IsTaken (words : List Text) (name : Text) (peers admin : Option Text)
 abbrev pub TakesReplay : Type 0
 TakesReplay = (self : Text) → IsTaken (self ∷ codes "replay" ∷ []) (codes "replay") None None
 
--- `import`
-abbrev pub TakesImport : Type 0
-TakesImport = (self : Text) → IsTaken (self ∷ codes "import" ∷ []) (codes "import") None None
+-- a path, which begins with a slash
+abbrev pub path : Text → Text
+path rest = 47 ∷ rest
+
+-- `--name=` with this text
+abbrev pub name_word : Text → Text
+name_word text = codes "--name=" ++ text
+
+-- the words of `import` with a name and two files
+abbrev pub import_words : (self name one other : Text) → List Text
+import_words self name one other =
+    self ∷ codes "import" ∷ name_word name ∷ path one ∷ path other ∷ []
+
+-- `import` alone, and with the collector's name and two files in their order, for all texts
+pub record TakesImport (self name one other : Text) : Type 0 where
+  pub alone : IsTaken (self ∷ codes "import" ∷ []) (codes "import") None None
+  pub taken : fault_of program (import_words self name one other) ≡ []
+  pub name_is : text_in (codes "name") (subcommand_of program (import_words self name one other))
+      ≡ Some name
+  pub both : texts_in (codes "file") (subcommand_of program (import_words self name one other))
+      ≡ Some (path one ∷ path other ∷ [])
 
 -- `--peers=` and `--admin=` with these texts
 abbrev pub peers_word : Text → Text
@@ -78,10 +96,13 @@ pub record TakesFile (words : List Text) (name file : Text) : Type 0 where
   pub named : option_map (λ command. command.0) (subcommand_of program words) ≡ Some name
   pub file_is : text_in (codes "config") (subcommand_of program words) ≡ Some file
 
--- `check` alone, and `check` and `listen` with a file, for all texts
+-- `check` alone, `check` with a file in both ways, and `listen` with one, for all texts
 pub record TakesFiles (self file peers admin : Text) : Type 0 where
   pub alone : IsTaken (self ∷ codes "check" ∷ []) (codes "check") None None
   pub checked : TakesFile (self ∷ codes "check" ∷ config_word file ∷ []) (codes "check") file
+  pub named : fault_of program (self ∷ codes "check" ∷ path file ∷ []) ≡ []
+  pub named_is : text_in (codes "file")
+      (subcommand_of program (self ∷ codes "check" ∷ path file ∷ [])) ≡ Some (path file)
   pub collected : TakesFile
       (listen_words self (config_word file ∷ peers_word peers ∷ admin_word admin ∷ []))
       (codes "listen") file

@@ -1,14 +1,18 @@
 use crate::network::Network;
 use std::net::SocketAddr;
 
-/// What the program is to do. A configuration is the text of this file, or of standard input where
-/// none is named.
+/// What the program is to do. A text is that of the files that are named, or of standard input
+/// where none is.
 #[derive(Debug, Drop)]
 pub enum Job<'a> {
     /// Replay the script on standard input.
     Replay,
-    /// Write a configuration for the haproxy.cfg on standard input.
-    Import,
+    /// Write a configuration for a haproxy.cfg, which may be several files, one behind the other.
+    /// `name` is the collector's, where it is given.
+    Import {
+        name: Option<&'a str>,
+        files: Vec<&'a str>,
+    },
     /// Say what is wrong with a configuration.
     Check {
         config: Option<&'a str>,

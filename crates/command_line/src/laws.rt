@@ -7,13 +7,13 @@ ghost use Rattle.command_line.specs.Lines.{TakesJoined, TakesNetworks, TakesRepl
 ghost use Rattle.command_line.specs.Lines.{TakesUnknownPeers};
 ghost use Rattle.command_line.specs.Networks.{first_bits, mapped};
 
-/// `replay`, `import`, and `listen` with `--peers=` and `--admin=` in either order, are taken for
-/// what they say, whatever the program is called and the two texts are. So are each `--from=` and
-/// `--http-host=`, `--unknown-peers=` and `--http=` beside them, `--admin-socket=` with `--admin=`
-/// or without, `check`, and `--config=`.
+/// `replay`, `import` with `--name=` and files, and `listen` with `--peers=` and `--admin=` in either
+/// order, are taken for what they say, whatever the program is called and the texts are. So are
+/// each `--from=` and `--http-host=`, `--unknown-peers=` and `--http=` beside them,
+/// `--admin-socket=` with `--admin=` or without, `check` with a file or without, and `--config=`.
 pub fn shown_lines()
     ensures replay { TakesReplay }
-    ensures import { TakesImport }
+    ensures import { (self name one other : List ℕ) → TakesImport self name one other }
     ensures joined { TakesJoined }
     ensures networks { (self peers admin one other : List ℕ)
         → TakesNetworks self peers admin one other }

@@ -20,4 +20,4 @@ pub use job::{Endpoints, Job, UnknownPeers};
 pub use network::Network;
 pub use networks::{admits, read_network};
 pub use reading::{VERSION, read};
-pub use usage::Usage;
+pub use usage::{PlaceOption, Usage};

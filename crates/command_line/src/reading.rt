@@ -2,10 +2,11 @@
 
 ghost use Rattle.std.specs.Prelude.{◌≡◌, Some, codes, false, map, string_bytes, IfErr, IfOk};
 ghost use Rattle.std.specs.Option.{option_map};
-ghost use Rattle.clap.specs.Words.{app_of, found_of, kind_of, rows_of, rule_of};
+ghost use Rattle.clap.specs.Words.{app_of, first_of, found_of, kind_of, rows_of, rule_of};
 ghost use Rattle.command_line.specs.Address.{parts_of};
 ghost use Rattle.command_line.specs.Asked.{AsksFor, IsCommand, IsJob, IsNoJob, IsRefused};
 ghost use Rattle.command_line.specs.Asked.{IsLocal, SaysAddresses, SaysFile, address_if};
+ghost use Rattle.command_line.specs.Asked.{SaysFiles, SaysName, check, import, many_words, word};
 ghost use Rattle.command_line.specs.Asked.{address_in, address_said, choice_in, choice_of};
 ghost use Rattle.command_line.specs.Asked.{hosts_in, listen, many_option, needed_option};
 ghost use Rattle.command_line.specs.Asked.{networks_in, path_if, path_said, program, value_option};
@@ -16,7 +17,7 @@ use crate::hosts::read_hosts;
 use crate::job::{Endpoints, Job, UnknownPeers};
 use crate::network::Network;
 use crate::networks::read_network;
-use crate::usage::Usage;
+use crate::usage::{PlaceOption, Usage};
 use agg_types::NoMemory;
 use clap::error::ErrorKind;
 use clap::{Arg, ArgAction, ArgMatches, Command, Error};
@@ -29,6 +30,10 @@ pub const VERSION: &str = "0.4.0";
 
 /// What help says of the options.
 const CONFIG: &str = "The configuration [default: standard input]";
+
+const HAPROXY: &str = "haproxy.cfg files, read one behind the other [default: standard input]";
+
+const NAME: &str = "The collector's name; each other peer is a proxy [default: the last peer's]";
 
 const PEERS: &str = "Where proxies connect, as 10.1.0.9:10000 or [2001:db8::9]:10000";
 
@@ -50,7 +55,8 @@ const UNKNOWN_PEERS: &str =
 /// that is asked for and words that aren't the program's are `Usage::Words`. Of words that are, an
 /// address that is none is `Usage::BadAddress`. No place where operators connect is
 /// `Usage::NoAdmin`, another word for unknown peers `Usage::BadUnknownPeers`, and a host that has
-/// no name `Usage::BadHost`. Of several the first of these is told.
+/// no name `Usage::BadHost`. Of several the first of these is told. A file for `check` in both ways
+/// is `Usage::TwoFiles`.
 pub fn read<'a, S: AsStr>(alloc: Global, words: &'a [S]) -> Result<Job<'a>, Usage>
     ensures job { IfOk result (AsksFor (map S.text words.now)) }
     ensures usage { IfErr result (IsRefused (map S.text words.now)) }
@@ -70,21 +76,37 @@ fn program<'a>(alloc: Global) -> Result<Command<'a>, Error>
     let replay = Command::new(alloc, "replay").about(
         "Reads a script on standard input and prints its results",
     );
-    let import = Command::new(alloc, "import").about(
-        "Reads a haproxy.cfg on standard input and prints a configuration for it",
-    );
-    let check = Command::new(alloc, "check")
-        .about("Reads a configuration and says what is wrong with it")
-        .arg(option(alloc, "config", "FILE", CONFIG))?;
     let command = Command::new(alloc, "aggregator")
         .about("Collects HAProxy stick tables of a fleet")
         .version(VERSION)
         .subcommand_required(true)
         .subcommand(replay)?
-        .subcommand(import)?
-        .subcommand(check)?
+        .subcommand(import(alloc)?)?
+        .subcommand(check(alloc)?)?
         .subcommand(listen(alloc)?)?;
     Ok(command)
+}
+
+// The command that prints a configuration for a haproxy.cfg.
+fn import<'a>(alloc: Global) -> Result<Command<'a>, AllocError>
+    ensures app { IfOk result (λ command. app_of command ≡ import) }
+    ensures local { IfOk result IsLocal }
+{
+    Command::new(alloc, "import")
+        .about("Reads a haproxy.cfg and prints a configuration for it")
+        .arg(option(alloc, "name", "NAME", NAME))?
+        .arg(files(alloc, "file", "FILE", HAPROXY))
+}
+
+// The command that says what is wrong with a configuration.
+fn check<'a>(alloc: Global) -> Result<Command<'a>, AllocError>
+    ensures app { IfOk result (λ command. app_of command ≡ check) }
+    ensures local { IfOk result IsLocal }
+{
+    Command::new(alloc, "check")
+        .about("Reads a configuration and says what is wrong with it")
+        .arg(option(alloc, "config", "FILE", CONFIG))?
+        .arg(file(alloc, "file", "FILE", CONFIG))
 }
 
 // The command that collects.
@@ -132,6 +154,25 @@ fn repeated<'a>(alloc: Global, name: &'a str, value: &'a str, help: &'a str) -> 
     option(alloc, name, value, help).action(ArgAction::Append)
 }
 
+// A word that may be there.
+fn file<'a>(alloc: Global, name: &'a str, value: &'a str, help: &'a str) -> Arg<'a>
+    ensures rule { rule_of result ≡ word name.entry.now }
+    ensures local { result.global ≡ false }
+{
+    Arg::new(alloc, name)
+        .value_name(value)
+        .help(help)
+        .action(ArgAction::Set)
+}
+
+// Words, any number of them.
+fn files<'a>(alloc: Global, name: &'a str, value: &'a str, help: &'a str) -> Arg<'a>
+    ensures rule { rule_of result ≡ many_words name.entry.now }
+    ensures local { result.global ≡ false }
+{
+    file(alloc, name, value, help).action(ArgAction::Append)
+}
+
 // What a command with its options asks for.
 fn job<'a>(alloc: Global, name: &str, given: &ArgMatches<'a>) -> Result<Job<'a>, Usage>
     requires { IsCommand name.now }
@@ -141,12 +182,33 @@ fn job<'a>(alloc: Global, name: &str, given: &ArgMatches<'a>) -> Result<Job<'a>,
     if name == "replay" {
         Ok(Job::Replay)
     } else if name == "import" {
-        Ok(Job::Import)
+        importing(alloc, given)
     } else if name == "check" {
-        let config = file_in(given);
-        Ok(Job::Check { config })
+        checking(given)
     } else {
         listening(alloc, given)
+    }
+}
+
+// What `import` asks for.
+fn importing<'a>(alloc: Global, given: &ArgMatches<'a>) -> Result<Job<'a>, Usage>
+    ensures job { IfOk result (IsJob (Some (codes "import", rows_of (found_of given.now)))) }
+    ensures none { IfErr result (IsNoJob (Some (codes "import", rows_of (found_of given.now)))) }
+{
+    let name = name_in(given);
+    let files = files_in(alloc, given)?;
+    Ok(Job::Import { name, files })
+}
+
+// What `check` asks for.
+fn checking<'a>(given: &ArgMatches<'a>) -> Result<Job<'a>, Usage>
+    ensures job { IfOk result (IsJob (Some (codes "check", rows_of (found_of given.now)))) }
+    ensures none { IfErr result (IsNoJob (Some (codes "check", rows_of (found_of given.now)))) }
+{
+    match (word_in(given), file_in(given)) {
+        (None, config) => Ok(Job::Check { config }),
+        (word, None) => Ok(Job::Check { config: word }),
+        (Some(_), Some(_)) => Err(Usage::TwoFiles),
     }
 }
 
@@ -165,18 +227,22 @@ fn endpoints_in(alloc: Global, given: &ArgMatches<'_>) -> Result<Endpoints, Usag
     ensures said { IfOk result (SaysAddresses (rows_of (found_of given.now))) }
     ensures none { IfErr result (IsNoJob (Some (codes "listen", rows_of (found_of given.now)))) }
 {
-    let peers = address_in(alloc, given, "peers")?;
-    let admin = address_if(alloc, given, "admin")?;
-    let path = path_if(alloc, given, "admin-socket")?;
-    let http = address_if(alloc, given, "http")?;
-    let from = networks_in(alloc, given, "from")?;
+    let Some(peers) = address_in(alloc, given, "peers")? else {
+        return Err(Usage::BadAddress(PlaceOption::Peers));
+    };
+    let Some(admin) = address_if(alloc, given, "admin")? else {
+        return Err(Usage::BadAddress(PlaceOption::Admin));
+    };
+    let Some(admin_socket) = path_if(alloc, given, "admin-socket")? else {
+        return Err(Usage::BadAddress(PlaceOption::AdminSocket));
+    };
+    let Some(http) = address_if(alloc, given, "http")? else {
+        return Err(Usage::BadAddress(PlaceOption::Http));
+    };
+    let Some(from) = networks_in(alloc, given, "from")? else {
+        return Err(Usage::BadAddress(PlaceOption::From));
+    };
     let hosts = hosts_in(alloc, given, "http-host")?;
-    let (Some(peers), Some(admin), Some(admin_socket)) = (peers, admin, path) else {
-        return Err(Usage::BadAddress);
-    };
-    let (Some(http), Some(from)) = (http, from) else {
-        return Err(Usage::BadAddress);
-    };
     if admin.is_none() && admin_socket.is_none() {
         return Err(Usage::NoAdmin);
     }
@@ -202,6 +268,40 @@ fn file_in<'a>(given: &ArgMatches<'a>) -> Option<&'a str>
     ensures { SaysFile (rows_of (found_of given.now)) result }
 {
     given.get_str("config")
+}
+
+// The file that a word names.
+fn word_in<'a>(given: &ArgMatches<'a>) -> Option<&'a str>
+    ensures { option_map (λ name. name.now) result
+        ≡ first_of (codes "file") (rows_of (found_of given.now)) }
+{
+    given.get_str("file")
+}
+
+// The collector's name, where an option gives it.
+fn name_in<'a>(given: &ArgMatches<'a>) -> Option<&'a str>
+    ensures { SaysName (rows_of (found_of given.now)) result }
+{
+    given.get_str("name")
+}
+
+// The files that words name.
+fn files_in<'a>(alloc: Global, given: &ArgMatches<'a>) -> Result<Vec<&'a str>, NoMemory>
+    ensures { IfOk result (λ files. SaysFiles (rows_of (found_of given.now)) files.items) }
+{
+    match given.get_raw("file") {
+        None => Ok(Vec::new(alloc)),
+        Some(files) => copied(alloc, files),
+    }
+}
+
+fn copied<'a>(alloc: Global, texts: &[&'a str]) -> Result<Vec<&'a str>, NoMemory>
+    ensures { IfOk result (λ copied.
+        map (λ text. text.now) copied.items ≡ map (λ text. text.now) texts.now) }
+{
+    let mut copied = Vec::new(alloc);
+    copied.extend_from_slice(texts)?;
+    Ok(copied)
 }
 
 // What the options say of unknown peers.

@@ -1,6 +1,6 @@
 ghost use Rattle.std.specs.Prelude.{◌≡◌, ◌≢◌, IfSome, OnOk};
 ghost use Rattle.std.specs.Io.KnownBytes.{Appends, Keeps};
-ghost use Rattle.command_line.specs.Status.{IsUsageOf, IsWant, status_of, text_of};
+ghost use Rattle.command_line.specs.Status.{IsUsageOf, IsWant, place_fault, status_of, text_of};
 
 use agg_types::NoMemory;
 use clap::Error;
@@ -8,20 +8,46 @@ use clap::error::ErrorKind;
 use std::io::Write;
 use std::{fmt, io};
 
+/// An option of `listen` that says where, or for whom, is to be listened.
+#[derive(Clone, Copy, Debug, PartialEq, Eq)]
+pub enum PlaceOption {
+    Peers,
+    Admin,
+    AdminSocket,
+    Http,
+    From,
+}
+
+impl PlaceOption {
+    // What is told where it says none.
+    fn fault(self) -> &'static str
+        ensures { result.now ≡ place_fault self }
+    {
+        match self {
+            PlaceOption::Peers => "bad address of --peers\n",
+            PlaceOption::Admin => "bad address of --admin\n",
+            PlaceOption::AdminSocket => "bad path of --admin-socket\n",
+            PlaceOption::Http => "bad address of --http\n",
+            PlaceOption::From => "bad network of --from\n",
+        }
+    }
+}
+
 /// Why a command line asks for no job.
 #[derive(Debug, Drop)]
 pub enum Usage {
     /// It asks for help, or its words aren't those of the program: what `clap` says of it.
     Words(Error),
-    /// `--peers`, `--admin` or `--http` names no address, `--admin-socket` no path, or `--from` no
-    /// network.
-    BadAddress,
+    /// The option names no address, no path or no network.
+    BadAddress(PlaceOption),
     /// Neither `--admin` nor `--admin-socket` is there.
     NoAdmin,
     /// `--unknown-peers` says neither `refuse` nor `wait`.
     BadUnknownPeers,
     /// `--http-host` says no name of a host.
     BadHost,
+    /// `check` has a file both behind `--config` and as a word.
+    TwoFiles,
     /// An allocation failed.
     NoMemory,
 }
@@ -35,8 +61,8 @@ impl Usage {
         match self {
             Usage::Words(error) if error.use_stderr() => 2,
             Usage::Words(_) => 0,
-            Usage::BadAddress | Usage::NoAdmin => 2,
-            Usage::BadUnknownPeers | Usage::BadHost => 2,
+            Usage::BadAddress(_) | Usage::NoAdmin => 2,
+            Usage::BadUnknownPeers | Usage::BadHost | Usage::TwoFiles => 2,
             Usage::NoMemory => 5,
         }
     }
@@ -66,10 +92,11 @@ impl fmt::Display for Usage {
     fn fmt<W: fmt::Write>(&self, f: &mut fmt::Formatter<W>) -> fmt::Result {
         match self {
             Usage::Words(error) => fmt::Display::fmt(error, f),
-            Usage::BadAddress => f.write_str("bad address\n"),
+            Usage::BadAddress(option) => f.write_str(option.fault()),
             Usage::NoAdmin => f.write_str("neither --admin nor --admin-socket\n"),
-            Usage::BadUnknownPeers => f.write_str("bad --unknown-peers\n"),
+            Usage::BadUnknownPeers => f.write_str("bad --unknown-peers: refuse or wait\n"),
             Usage::BadHost => f.write_str("bad --http-host\n"),
+            Usage::TwoFiles => f.write_str("both --config and a file\n"),
             Usage::NoMemory => Ok(()),
         }
     }

@@ -2,7 +2,7 @@
 use Rattle.std.specs.Prelude.{◌≡◌, ℕ, Bool, true, false, ◌&&◌, ◌||◌, not, if◌then◌else◌, ◌==◌}
 use Rattle.std.specs.Prelude.{nat_le, nat_lt, List, []}
 use Rattle.std.specs.Prelude.{◌∷◌, ◌++◌, length, drop, map, filter, fold, slice_index_or, codes}
-use Rattle.std.specs.Prelude.{Option, None, Some}
+use Rattle.std.specs.Prelude.{Option, None, Some, unwrap_or}
 use Rattle.std.specs.List.{list_any}
 use Rattle.std.specs.Str.{bytes_eq}
 use Rattle.agg_types.specs.Check.{all_faults}
@@ -17,9 +17,21 @@ use Rattle.haproxy_cfg.specs.declared.sections.SectionKind.{SectionKind}
 use Rattle.haproxy_cfg.specs.declared.sections.SectionKind.TheVariants.{Peers, Proxy, Other}
 use Rattle.haproxy_import.specs.States.{State}
 
--- before the first line
-abbrev pub start : State
-start = record { kind = Other; section = []; last = []; unnamed = false; peers = []; tables = [] }
+-- the collector as a peer, where its name is given
+abbrev pub named : Option (List ℕ) → List (List ℕ)
+named None = []
+named (Some name) = name ∷ []
+
+-- before the first line of a file, for a collector whose name may be given
+abbrev pub start : Option (List ℕ) → State
+start me = record {
+  kind = Other;
+  section = [];
+  last = [];
+  unnamed = false;
+  peers = named me;
+  tables = [];
+}
 
 -- the first of these words, if there is one
 abbrev pub first_of : List (List ℕ) → List ℕ
@@ -95,12 +107,12 @@ unfoldable pub behind : State → List (List ℕ) → State
 behind state words = opening (opened (first_of words)) state words
 
 -- what lines declare
-abbrev pub found : List (List ℕ) → State
-found lines = fold (λ state line. behind state (said line)) start lines
+abbrev pub found : Option (List ℕ) → List (List ℕ) → State
+found me lines = fold (λ state line. behind state (said line)) (start me) lines
 
--- the collector's name: the last peer's, if there are several
-abbrev pub me_of : State → List ℕ
-me_of state =
+-- the collector's name where none is given: the last peer's, if there are several
+abbrev pub last_of : State → List ℕ
+last_of state =
     if (length state.peers == 0) || (nat_lt (length state.peers) 2 && not state.unnamed)
     then codes "collector" else state.last
 
@@ -108,11 +120,15 @@ me_of state =
 abbrev pub others_than : List ℕ → List (List ℕ) → List (List ℕ)
 others_than me peers = filter (λ peer. not (bytes_eq peer me)) peers
 
--- the collector's configuration
-unfoldable pub config_of : State → Config
-config_of state = record {
-  me = me_of state;
-  peers = others_than (me_of state) state.peers;
+-- the collector's name
+abbrev pub me_of : Option (List ℕ) → State → List ℕ
+me_of me state = unwrap_or me (last_of state)
+
+-- the collector's configuration: each peer but itself is a proxy
+unfoldable pub config_of : Option (List ℕ) → State → Config
+config_of me state = record {
+  me = me_of me state;
+  peers = others_than (me_of me state) state.peers;
   tables = state.tables;
   filters = [];
   ranks = [];
@@ -127,12 +143,12 @@ abbrev pub as_space : ℕ → ℕ
 as_space byte = if (byte == 9) || (byte == 13) then 32 else byte
 
 -- the configuration that a text declares whose words only spaces separate
-unfoldable pub declared : List ℕ → Config
-declared text = config_of (found (lines_of text))
+unfoldable pub declared : Option (List ℕ) → List ℕ → Config
+declared me text = config_of me (found me (lines_of text))
 
--- the configuration that a haproxy.cfg declares
-unfoldable pub imported : List ℕ → Config
-imported text = declared (map as_space text)
+-- the configuration that a haproxy.cfg declares, for a collector whose name may be given
+unfoldable pub imported : Option (List ℕ) → List ℕ → Config
+imported me text = declared me (map as_space text)
 
 -- the collector reads this text without a fault, as this configuration
 unfoldable pub Reads : List ℕ → Config → Type 0

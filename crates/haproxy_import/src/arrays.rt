@@ -44,7 +44,7 @@ fn behind_comma<'a>(item: &[u8], rest: Option<&'a [u8]>) -> Option<&'a [u8]> {
 
 /// Tells which columns an array is kept as, or why it isn't kept.
 pub(crate) fn tell_array(
-    page: &mut Page,
+    page: &mut Page<'_>,
     table: Described<'_>,
     array: Array<'_>,
 ) -> Result<(), NoMemory> {
@@ -82,7 +82,7 @@ fn is_kept(table: Described<'_>, array: Array<'_>, count: u64, period: u32) -> b
 }
 
 fn tell_kept(
-    page: &mut Page,
+    page: &mut Page<'_>,
     table: Described<'_>,
     array: Array<'_>,
     count: u64,
@@ -108,7 +108,7 @@ fn tell_kept(
 }
 
 fn put_array(
-    page: &mut Page,
+    page: &mut Page<'_>,
     table: Described<'_>,
     array: Array<'_>,
     before: &[u8],

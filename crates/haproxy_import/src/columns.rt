@@ -16,13 +16,13 @@ pub(crate) struct Described<'a> {
 
 /// Tells the columns of a table that aren't kept here, or under other names; whether all are kept
 /// as they stand.
-pub(crate) fn tell_columns(page: &mut Page, table: Described<'_>) -> Result<bool, NoMemory> {
+pub(crate) fn tell_columns(page: &mut Page<'_>, table: Described<'_>) -> Result<bool, NoMemory> {
     let before = page.len();
     columns(page, table)?;
     Ok(page.len() == before)
 }
 
-fn columns(page: &mut Page, table: Described<'_>) -> Result<(), NoMemory> {
+fn columns(page: &mut Page<'_>, table: Described<'_>) -> Result<(), NoMemory> {
     let mut left = table.rest;
     'words: while let Some((word, others)) = next_word(left) {
         if word == b"store".as_slice() {
@@ -34,7 +34,7 @@ fn columns(page: &mut Page, table: Described<'_>) -> Result<(), NoMemory> {
 }
 
 // A comma within parentheses leaves a period, which is no column of its own.
-fn list(page: &mut Page, table: Described<'_>, list: &[u8]) -> Result<(), NoMemory> {
+fn list(page: &mut Page<'_>, table: Described<'_>, list: &[u8]) -> Result<(), NoMemory> {
     let mut left = list;
     let mut is_open = false;
     'items: loop {
@@ -54,7 +54,7 @@ fn list(page: &mut Page, table: Described<'_>, list: &[u8]) -> Result<(), NoMemo
 
 // An item, with what is left of its list.
 fn entry(
-    page: &mut Page,
+    page: &mut Page<'_>,
     table: Described<'_>,
     item: &[u8],
     rest: Option<&[u8]>,
@@ -65,7 +65,7 @@ fn entry(
     }
 }
 
-fn column(page: &mut Page, table: Described<'_>, item: &[u8]) -> Result<(), NoMemory> {
+fn column(page: &mut Page<'_>, table: Described<'_>, item: &[u8]) -> Result<(), NoMemory> {
     let name = match place_of(item, b'(') {
         None => item,
         Some(end) => &item[..end],
@@ -77,7 +77,12 @@ fn column(page: &mut Page, table: Described<'_>, item: &[u8]) -> Result<(), NoMe
 }
 
 // An item of a column that is known here. A table stores it with the first period that is read.
-fn period(page: &mut Page, table: Described<'_>, col: Col, item: &[u8]) -> Result<(), NoMemory> {
+fn period(
+    page: &mut Page<'_>,
+    table: Described<'_>,
+    col: Col,
+    item: &[u8],
+) -> Result<(), NoMemory> {
     match item_of(col, item) {
         None => not_kept(page, table, item, b", its period isn't read here"),
         Some(period) if period_behind(col, table.rest) != Some(period) => {
@@ -88,7 +93,7 @@ fn period(page: &mut Page, table: Described<'_>, col: Col, item: &[u8]) -> Resul
 }
 
 fn not_kept(
-    page: &mut Page,
+    page: &mut Page<'_>,
     table: Described<'_>,
     item: &[u8],
     why: &[u8],
@@ -100,7 +105,7 @@ fn not_kept(
 }
 
 /// Tells where bytes are counted in blocks, of a size that no proxy tells.
-pub(crate) fn tell_blocks(page: &mut Page, table: Described<'_>) -> Result<(), NoMemory> {
+pub(crate) fn tell_blocks(page: &mut Page<'_>, table: Described<'_>) -> Result<(), NoMemory> {
     let factor = value_of(table.rest, b"brates-factor");
     if factor.is_empty() {
         return Ok(());

@@ -29,7 +29,7 @@ impl<'a> Said<'a> {
         self.is_peer() && word_of(self.rest).0 == name
     }
 
-    fn put(self, page: &mut Page) -> Result<(), NoMemory> {
+    fn put(self, page: &mut Page<'_>) -> Result<(), NoMemory> {
         page.put(&[b"#        "])?;
         page.words(self.first)?;
         page.words(self.rest)?;
@@ -104,17 +104,19 @@ pub(crate) fn line_of(sections: &[Section<'_>], me: &[u8]) -> Option<u64> {
     None
 }
 
-/// Tells what keeps the sections from being right for a collector of this name.
+/// Tells what keeps the sections from being right for a collector of this name, which may be given.
 pub(crate) fn tell_sections(
-    page: &mut Page,
+    page: &mut Page<'_>,
     sections: &[Section<'_>],
     me: &[u8],
+    is_given: bool,
 ) -> Result<(), NoMemory> {
-    let is_named = line_of(sections, me).is_some();
+    let is_there = line_of(sections, me).is_some();
     for section in sections {
         match section.line_of(me) {
             Some(collector) => tell_fleet(page, section, me, collector)?,
-            None if is_named && section.first_proxy(me).is_some() => tell_other(page, section, me)?,
+            None if section.first_proxy(me).is_none() => {}
+            None if is_there || is_given => tell_other(page, section, me, is_there)?,
             None => {}
         }
     }
@@ -123,7 +125,7 @@ pub(crate) fn tell_sections(
 
 // A section that names the collector.
 fn tell_fleet(
-    page: &mut Page,
+    page: &mut Page<'_>,
     section: &Section<'_>,
     me: &[u8],
     collector: Said<'_>,
@@ -137,24 +139,30 @@ fn tell_fleet(
     tell_shard(page, me, collector)
 }
 
-// A section that names proxies, and not the collector.
-fn tell_other(page: &mut Page, section: &Section<'_>, me: &[u8]) -> Result<(), NoMemory> {
-    page.comment(
-        section.line,
-        &[
-            b"peers ",
-            section.name,
-            b" doesn't name ",
-            me,
+// A section that names proxies, and not the collector, which another one may name.
+fn tell_other(
+    page: &mut Page<'_>,
+    section: &Section<'_>,
+    me: &[u8],
+    is_there: bool,
+) -> Result<(), NoMemory> {
+    page.begin(section.line)?;
+    page.put(&[b"peers ", section.name, b" doesn't name ", me])?;
+    if is_there {
+        page.put(&[
             b": take out the lines of tables with peers ",
             section.name,
-        ],
-    )
+            b"\n",
+        ])
+    } else {
+        page.put(&[b": let each proxy name itself and ", me, b" alone there.\n"])?;
+        put_second(page, section, me)
+    }
 }
 
 // Proxies that name one another, too.
 fn tell_mesh(
-    page: &mut Page,
+    page: &mut Page<'_>,
     section: &Section<'_>,
     me: &[u8],
     proxy: Said<'_>,
@@ -181,7 +189,7 @@ fn tell_mesh(
 }
 
 // A section for the collector beside one that proxies keep for themselves.
-fn put_second(page: &mut Page, section: &Section<'_>, me: &[u8]) -> Result<(), NoMemory> {
+fn put_second(page: &mut Page<'_>, section: &Section<'_>, me: &[u8]) -> Result<(), NoMemory> {
     page.put(&[
         b"# Or keep peers ",
         section.name,
@@ -197,7 +205,7 @@ fn put_second(page: &mut Page, section: &Section<'_>, me: &[u8]) -> Result<(), N
 }
 
 // The collector would get only a part of the keys.
-fn tell_shard(page: &mut Page, me: &[u8], said: Said<'_>) -> Result<(), NoMemory> {
+fn tell_shard(page: &mut Page<'_>, me: &[u8], said: Said<'_>) -> Result<(), NoMemory> {
     let shard = value_of(said.rest, b"shard");
     if shard.is_empty() {
         return Ok(());
@@ -215,7 +223,7 @@ fn tell_shard(page: &mut Page, me: &[u8], said: Said<'_>) -> Result<(), NoMemory
 }
 
 // The collector has no TLS.
-fn tell_tls(page: &mut Page, section: &Section<'_>, me: &[u8]) -> Result<(), NoMemory> {
+fn tell_tls(page: &mut Page<'_>, section: &Section<'_>, me: &[u8]) -> Result<(), NoMemory> {
     for said in section.lines.as_slice() {
         let is_its_line = said.first == b"default-server".as_slice() || said.is_of(me);
         if is_its_line && has_word(said.rest, b"ssl") {

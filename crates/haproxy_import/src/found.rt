@@ -1,13 +1,16 @@
 //! What a haproxy.cfg declares, line by line.
 
 ghost use Rattle.std.specs.Prelude.{◌≡◌, ◌∷◌, OnOk, IfOk};
+ghost use Rattle.std.specs.Option.{option_map};
 ghost use Rattle.line_words.specs.Words.{words};
 ghost use Rattle.haproxy_cfg.specs.Tables.{shape_of};
-ghost use Rattle.haproxy_import.specs.Found.{behind, config_of, me_of, others_than, peers_line};
+ghost use Rattle.haproxy_import.specs.Found.{behind, config_of, last_of, me_of, named};
+ghost use Rattle.haproxy_import.specs.Found.{others_than, peers_line};
 ghost use Rattle.haproxy_import.specs.Found.{proxy_line, said, said_in, start, with_peer};
 ghost use Rattle.haproxy_import.specs.Found.{with_shape, with_table};
 
 use crate::notes::Notes;
+use crate::origins::Origin;
 use agg_types::{Config, Declared, MOST_PEERS, MOST_TABLES, Name, NoMemory, Shape};
 use haproxy_cfg::{
     SectionKind, before_hash, fits, has_word, opened, plain_name, shape_of, value_of, word_of,
@@ -47,20 +50,24 @@ impl<'a> Model for Found<'a> {
 }
 
 impl<'a> Found<'a> {
-    /// Nothing.
-    pub(crate) fn new(alloc: Global) -> Found<'a>
-        ensures { result ≡ start }
+    /// Nothing but the collector, where its name is given. The lines come from these files.
+    pub(crate) fn new(
+        alloc: Global,
+        me: Option<&[u8]>,
+        origins: &'a [Origin<'a>],
+    ) -> Result<Found<'a>, NoMemory>
+        ensures { IfOk result (λ found. found ≡ start (option_map (λ name. name.now) me.entry)) }
     {
-        Found {
+        Ok(Found {
             alloc,
             kind: SectionKind::Other,
             section: b"",
             last: b"",
             unnamed: false,
-            peers: Declared::new(alloc),
+            peers: named(alloc, me)?,
             tables: Declared::new(alloc),
-            notes: Notes::new(alloc),
-        }
+            notes: Notes::new(alloc, origins, me.is_some()),
+        })
     }
 
     /// Reads the next line.
@@ -169,12 +176,14 @@ impl<'a> Found<'a> {
         self.tables.push(shape)
     }
 
-    /// The configuration: the collector has the name of the last peer, if there are several.
+    /// The configuration: the collector has the name that is given, or else that of the last peer,
+    /// if there are several.
     #[tactic(auto, unfolding(crate::specs::Found::config_of))]
-    pub(crate) fn config(&self) -> Result<Config, NoMemory>
-        ensures { IfOk result (λ config. config ≡ config_of self.now) }
+    pub(crate) fn config(&self, me: Option<&[u8]>) -> Result<Config, NoMemory>
+        ensures { IfOk result (λ config.
+            config ≡ config_of (option_map (λ name. name.now) me.entry) self.now) }
     {
-        let me = self.me();
+        let me = self.me(me);
         Ok(Config {
             me: Name::copy(self.alloc, me)?,
             peers: others(self.alloc, self.peers.as_slice(), me)?,
@@ -188,8 +197,17 @@ impl<'a> Found<'a> {
         })
     }
 
-    fn me(&self) -> &[u8]
-        ensures { result.now ≡ me_of self.now }
+    fn me<'b>(&'b self, given: Option<&'b [u8]>) -> &'b [u8]
+        ensures { result.now ≡ me_of (option_map (λ name. name.now) given.entry) self.now }
+    {
+        match given {
+            None => self.last_peer(),
+            Some(name) => name,
+        }
+    }
+
+    fn last_peer(&self) -> &[u8]
+        ensures { result.now ≡ last_of self.now }
     {
         if self.peers.is_empty() || self.peers.len() < 2 && !self.unnamed {
             b"collector"
@@ -204,6 +222,17 @@ impl<'a> Found<'a> {
         notes.open(b"")?;
         Ok(notes)
     }
+}
+
+// The collector as a peer, where its name is given.
+fn named(alloc: Global, me: Option<&[u8]>) -> Result<Declared<Name>, NoMemory>
+    ensures { IfOk result (λ peers. peers ≡ named (option_map (λ name. name.now) me.entry)) }
+{
+    let mut peers = Declared::new(alloc);
+    if let Some(name) = me {
+        peers.push(Name::copy(alloc, name)?)?;
+    }
+    Ok(peers)
 }
 
 // Tells of a table whose name one of these tables has.

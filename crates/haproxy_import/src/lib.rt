@@ -8,7 +8,8 @@
 //! `import` promises two things of the text that it gives. The collector reads it without a fault,
 //! and what it then has is exactly `imported`, a definition in specs/. That is the peers and tables
 //! of the file, in its order, with HAProxy's lengths and periods and with room for more rows. So a
-//! table is neither lost nor made up. No clause says what its comments tell, nor that there is
+//! table is neither lost nor made up, and a collector whose name is given has each other peer as a
+//! proxy. No clause says what its comments tell, nor that there is
 //! memory.
 #![tactic(auto)]
 
@@ -17,6 +18,7 @@ mod columns;
 mod fleets;
 mod found;
 mod notes;
+mod origins;
 mod page;
 mod pushes;
 mod reasons;
@@ -25,4 +27,5 @@ mod sizes;
 mod text;
 mod whole;
 
+pub use origins::Origin;
 pub use whole::{ImportFault, import};

@@ -3,6 +3,7 @@
 
 use crate::columns::{Described, tell_blocks, tell_columns};
 use crate::fleets::{Said, Section};
+use crate::origins::Origin;
 use crate::page::Page;
 use crate::pushes::{suggest, tell_target};
 use crate::reasons::{tell_again, tell_full, tell_unfit, tell_unread};
@@ -16,27 +17,33 @@ use std::mem;
 #[derive(Drop)]
 pub(crate) struct Notes<'a> {
     alloc: Global,
+    /// From which files the lines come.
+    pub(crate) origins: &'a [Origin<'a>],
+    /// Whether the collector's name is given.
+    pub(crate) is_named: bool,
     line: u64,
     section: Section<'a>,
     sections: Vec<Section<'a>>,
     table_lines: Vec<u64>,
-    peers: Page,
-    tables: Page,
-    pushes: Page,
+    peers: Page<'a>,
+    tables: Page<'a>,
+    pushes: Page<'a>,
 }
 
 impl<'a> Notes<'a> {
-    /// Nothing.
-    pub(crate) fn new(alloc: Global) -> Notes<'a> {
+    /// Nothing, of lines that come from these files. Whether the collector's name is given.
+    pub(crate) fn new(alloc: Global, origins: &'a [Origin<'a>], is_named: bool) -> Notes<'a> {
         Notes {
             alloc,
+            origins,
+            is_named,
             line: 0,
             section: Section::new(alloc, 0, b""),
             sections: Vec::new(alloc),
             table_lines: Vec::new(alloc),
-            peers: Page::new(alloc),
-            tables: Page::new(alloc),
-            pushes: Page::new(alloc),
+            peers: Page::new(alloc, origins),
+            tables: Page::new(alloc, origins),
+            pushes: Page::new(alloc, origins),
         }
     }
 

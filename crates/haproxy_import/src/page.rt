@@ -1,22 +1,25 @@
 //! Text that is written piece by piece.
 
+use crate::origins::Origin;
 use agg_types::{NoMemory, Shape};
 use config_text::append_table;
 use line_words::next_word;
 use std::alloc::Global;
 
-/// What is written so far.
+/// What is written so far, of lines that come from these files.
 #[derive(Drop)]
-pub(crate) struct Page {
+pub(crate) struct Page<'a> {
     alloc: Global,
+    origins: &'a [Origin<'a>],
     text: Vec<u8>,
 }
 
-impl Page {
+impl<'a> Page<'a> {
     /// Nothing.
-    pub(crate) fn new(alloc: Global) -> Page {
+    pub(crate) fn new(alloc: Global, origins: &'a [Origin<'a>]) -> Page<'a> {
         Page {
             alloc,
+            origins,
             text: Vec::new(alloc),
         }
     }
@@ -57,9 +60,25 @@ impl Page {
 
     /// Begins a comment on a line of the file.
     pub(crate) fn begin(&mut self, line: u64) -> Result<(), NoMemory> {
-        self.put(&[b"# line "])?;
-        self.number(line)?;
+        self.put(&[b"# "])?;
+        self.place(line)?;
         self.put(&[b": "])
+    }
+
+    /// Appends where a line stands: its number, with its file where that has a name.
+    pub(crate) fn place(&mut self, line: u64) -> Result<(), NoMemory> {
+        let mut found = None;
+        for origin in self.origins {
+            if origin.before < line {
+                found = Some((origin.name, line - origin.before));
+            }
+        }
+        let Some((name, line)) = found else {
+            self.put(&[b"line "])?;
+            return self.number(line);
+        };
+        self.put(&[name.as_bytes(), b":"])?;
+        self.number(line)
     }
 
     /// Appends a comment of these texts on a line of the file.

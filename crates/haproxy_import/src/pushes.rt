@@ -22,7 +22,7 @@ const ENDING: &[u8] = b"_over";
 /// Suggests a filter on a table with a rate, and the stick table and rule for it; `fleet` is the
 /// `peers` section that the table names.
 pub(crate) fn suggest(
-    page: &mut Page,
+    page: &mut Page<'_>,
     table: Described<'_>,
     shape: &Shape,
     fleet: &[u8],
@@ -41,7 +41,7 @@ pub(crate) fn suggest(
 }
 
 fn put_filter(
-    page: &mut Page,
+    page: &mut Page<'_>,
     table: Described<'_>,
     name: &[u8],
     col: Col,
@@ -52,7 +52,7 @@ fn put_filter(
 }
 
 fn put_proxy(
-    page: &mut Page,
+    page: &mut Page<'_>,
     table: Described<'_>,
     shape: &Shape,
     name: &[u8],
@@ -76,7 +76,7 @@ fn put_proxy(
 
 /// Tells of a table that stores gpc0 alone how it may be one that the collector pushes.
 pub(crate) fn tell_target(
-    page: &mut Page,
+    page: &mut Page<'_>,
     table: Described<'_>,
     shape: &Shape,
 ) -> Result<(), NoMemory> {

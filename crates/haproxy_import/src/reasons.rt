@@ -9,7 +9,7 @@ use agg_types::{NoMemory, Shape};
 use haproxy_cfg::{kind_of, plain_name, value_of};
 
 /// A table whose type, length or size isn't read.
-pub(crate) fn tell_unread(page: &mut Page, table: Described<'_>) -> Result<(), NoMemory> {
+pub(crate) fn tell_unread(page: &mut Page<'_>, table: Described<'_>) -> Result<(), NoMemory> {
     let kind = value_of(table.rest, b"type");
     let size = value_of(table.rest, b"size");
     if kind.is_empty() {
@@ -30,7 +30,7 @@ pub(crate) fn tell_unread(page: &mut Page, table: Described<'_>) -> Result<(), N
 
 /// A table whose name or whose length of keys may not be.
 pub(crate) fn tell_unfit(
-    page: &mut Page,
+    page: &mut Page<'_>,
     table: Described<'_>,
     shape: &Shape,
 ) -> Result<(), NoMemory> {
@@ -49,7 +49,7 @@ pub(crate) fn tell_unfit(
 /// A table whose name another one has, which stands in this line. Nothing is told where both are
 /// the same.
 pub(crate) fn tell_again(
-    page: &mut Page,
+    page: &mut Page<'_>,
     table: Described<'_>,
     shape: &Shape,
     kept: &Shape,
@@ -59,24 +59,23 @@ pub(crate) fn tell_again(
         return Ok(());
     }
     begin(page, table)?;
-    page.put(&[b"line "])?;
-    page.number(line)?;
+    page.place(line)?;
     page.put(&[b" has one of this name, and it differs\n"])
 }
 
 /// A table behind as many as may be.
-pub(crate) fn tell_full(page: &mut Page, table: Described<'_>) -> Result<(), NoMemory> {
+pub(crate) fn tell_full(page: &mut Page<'_>, table: Described<'_>) -> Result<(), NoMemory> {
     begin(page, table)?;
     page.number(MOST_TABLES as u64)?;
     page.put(&[b" stand before it, the most here\n"])
 }
 
-fn begin(page: &mut Page, table: Described<'_>) -> Result<(), NoMemory> {
+fn begin(page: &mut Page<'_>, table: Described<'_>) -> Result<(), NoMemory> {
     page.begin(table.line)?;
     page.put(&[b"table ", table.name, b" is left out: "])
 }
 
-fn left_out(page: &mut Page, table: Described<'_>, why: &[&[u8]]) -> Result<(), NoMemory> {
+fn left_out(page: &mut Page<'_>, table: Described<'_>, why: &[&[u8]]) -> Result<(), NoMemory> {
     begin(page, table)?;
     page.put(why)?;
     page.put(&[b"\n"])

@@ -15,7 +15,7 @@ pub(crate) const RULE: &[u8] =
 
 /// Tells for how many new keys of a proxy a table has room, and why its rows go before they end.
 pub(crate) fn tell_room(
-    page: &mut Page,
+    page: &mut Page<'_>,
     table: Described<'_>,
     shape: &Shape,
 ) -> Result<(), NoMemory> {
@@ -32,7 +32,7 @@ pub(crate) fn tell_room(
     }
 }
 
-fn tell_expire(page: &mut Page, table: Described<'_>, size: u64) -> Result<(), NoMemory> {
+fn tell_expire(page: &mut Page<'_>, table: Described<'_>, size: u64) -> Result<(), NoMemory> {
     let expire = value_of(table.rest, b"expire");
     if expire.is_empty() {
         let why = b"without expire there rows stay here, and a full table takes no new keys";
@@ -48,7 +48,12 @@ fn tell_expire(page: &mut Page, table: Described<'_>, size: u64) -> Result<(), N
     }
 }
 
-fn tell_keep(page: &mut Page, table: Described<'_>, size: u64, keep: u64) -> Result<(), NoMemory> {
+fn tell_keep(
+    page: &mut Page<'_>,
+    table: Described<'_>,
+    size: u64,
+    keep: u64,
+) -> Result<(), NoMemory> {
     page.begin(table.line)?;
     page.put(&[b"keep "])?;
     page.number(keep)?;
@@ -65,7 +70,7 @@ fn tell_keep(page: &mut Page, table: Described<'_>, size: u64, keep: u64) -> Res
     put_pace(page, size, keep)
 }
 
-fn put_room(page: &mut Page, table: Described<'_>, size: u64) -> Result<(), NoMemory> {
+fn put_room(page: &mut Page<'_>, table: Described<'_>, size: u64) -> Result<(), NoMemory> {
     page.begin(table.line)?;
     page.put(&[b"room for "])?;
     page.number(size)?;
@@ -73,7 +78,7 @@ fn put_room(page: &mut Page, table: Described<'_>, size: u64) -> Result<(), NoMe
 }
 
 // How many keys of this life, in ms, may come each second.
-fn put_pace(page: &mut Page, size: u64, life: u64) -> Result<(), NoMemory> {
+fn put_pace(page: &mut Page<'_>, size: u64, life: u64) -> Result<(), NoMemory> {
     page.put(&[b", "])?;
     page.number(size.min(LARGEST_SIZE) * 1000 / life.max(1))?;
     page.put(&[b" a second\n"])

@@ -31,19 +31,19 @@ pub(crate) fn text_of(
     config: &Config,
     notes: &Notes<'_>,
 ) -> Result<Vec<u8>, NoMemory> {
-    let mut page = Page::new(alloc);
+    let mut page = Page::new(alloc, notes.origins);
     page.put(&[HEAD])?;
     put_peers(&mut page, config, notes)?;
     put_tables(&mut page, config, notes)?;
     Ok(page.into_text())
 }
 
-fn put_peers(page: &mut Page, config: &Config, notes: &Notes<'_>) -> Result<(), NoMemory> {
+fn put_peers(page: &mut Page<'_>, config: &Config, notes: &Notes<'_>) -> Result<(), NoMemory> {
     let me = config.me.as_slice();
     if config.peers.is_empty() {
         page.put(&[NO_PEERS])?;
     }
-    tell_sections(page, notes.sections(), me)?;
+    tell_sections(page, notes.sections(), me, notes.is_named)?;
     page.put(&[notes.peers()])?;
     put_me(page, notes, me)?;
     for peer in config.peers.as_slice() {
@@ -52,15 +52,16 @@ fn put_peers(page: &mut Page, config: &Config, notes: &Notes<'_>) -> Result<(), 
     Ok(())
 }
 
-fn put_me(page: &mut Page, notes: &Notes<'_>, me: &[u8]) -> Result<(), NoMemory> {
+fn put_me(page: &mut Page<'_>, notes: &Notes<'_>, me: &[u8]) -> Result<(), NoMemory> {
     match line_of(notes.sections(), me) {
+        _ if notes.is_named => {}
         None => page.put(&[NO_COLLECTOR])?,
         Some(line) => page.comment(line, &[me, TAKEN])?,
     }
     page.put(&[b"name ", me, b"\n"])
 }
 
-fn put_tables(page: &mut Page, config: &Config, notes: &Notes<'_>) -> Result<(), NoMemory> {
+fn put_tables(page: &mut Page<'_>, config: &Config, notes: &Notes<'_>) -> Result<(), NoMemory> {
     let head = if config.tables.is_empty() {
         NO_TABLES
     } else {

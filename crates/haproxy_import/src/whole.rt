@@ -1,10 +1,12 @@
 //! From one text to the other.
 
 ghost use Rattle.std.specs.Prelude.{◌≡◌, map, IfOk, OnOk};
+ghost use Rattle.std.specs.Option.{option_map};
 ghost use Rattle.line_words.specs.Words.{lines_of};
 ghost use Rattle.haproxy_import.specs.Found.{Reads, as_space, declared, found, imported};
 
 use crate::found::Found;
+use crate::origins::Origin;
 use crate::same::same_config;
 use crate::text::text_of;
 use agg_config::{LineCause, LineFault, read};
@@ -30,25 +32,38 @@ impl From<NoMemory> for ImportFault {
     }
 }
 
-/// The text of a collector's configuration, from that of a haproxy.cfg.
+/// The text of a collector's configuration, from that of a haproxy.cfg. The collector has the name
+/// that is given, or else that of the last peer. Comments name the lines by these files.
 ///
 /// The collector reads it without a fault, and has then exactly what `imported` says. The text is
 /// read again before it is given: what would be read as something else is `Unlike`.
 #[tactic(auto, unfolding(crate::specs::Found::imported))]
-pub fn import(alloc: Global, text: &[u8]) -> Result<Vec<u8>, ImportFault>
-    ensures { IfOk result (λ written. Reads written.items (imported text.now)) }
+pub fn import(
+    alloc: Global,
+    me: Option<&[u8]>,
+    text: &[u8],
+    origins: &[Origin<'_>],
+) -> Result<Vec<u8>, ImportFault>
+    ensures { IfOk result (λ written.
+        Reads written.items (imported (option_map (λ name. name.now) me.entry) text.now)) }
 {
     let spaced = spaced(alloc, text)?;
-    from_spaced(alloc, spaced.as_slice())
+    from_spaced(alloc, me, spaced.as_slice(), origins)
 }
 
 // The same of a text whose words only spaces separate.
 #[tactic(auto, unfolding(crate::specs::Found::declared))]
-fn from_spaced(alloc: Global, text: &[u8]) -> Result<Vec<u8>, ImportFault>
-    ensures { IfOk result (λ written. Reads written.items (declared text.now)) }
+fn from_spaced(
+    alloc: Global,
+    me: Option<&[u8]>,
+    text: &[u8],
+    origins: &[Origin<'_>],
+) -> Result<Vec<u8>, ImportFault>
+    ensures { IfOk result (λ written.
+        Reads written.items (declared (option_map (λ name. name.now) me.entry) text.now)) }
 {
-    let found = found_in(alloc, text)?;
-    let config = found.config()?;
+    let found = found_in(alloc, me, text, origins)?;
+    let config = found.config(me)?;
     let notes = found.into_notes()?;
     let written = text_of(alloc, &config, &notes)?;
     confirm(alloc, written.as_slice(), &config)?;
@@ -101,10 +116,16 @@ fn as_space(byte: u8) -> u8
     }
 }
 
-fn found_in(alloc: Global, text: &[u8]) -> Result<Found<'_>, NoMemory>
-    ensures { IfOk result (λ state. state ≡ found (lines_of text.now)) }
+fn found_in<'a>(
+    alloc: Global,
+    me: Option<&[u8]>,
+    text: &'a [u8],
+    origins: &'a [Origin<'a>],
+) -> Result<Found<'a>, NoMemory>
+    ensures { IfOk result (λ state.
+        state ≡ found (option_map (λ name. name.now) me.entry) (lines_of text.now)) }
 {
-    let mut found = Found::new(alloc);
+    let mut found = Found::new(alloc, me, origins)?;
     let mut left = text;
     'lines: while let Some((line, rest)) = next_line(left) {
         found.line(line)?;

@@ -1,5 +1,6 @@
 -- What the words of a command line do to the streams, and what is left to do.
 use Rattle.std.specs.Prelude.{◌≡◌, ◌≢◌, ◌⊎◌, ℕ, List, [], ◌∷◌, codes, Option, IfSome}
+use Rattle.std.specs.Option.{option_map}
 use Rattle.std.specs.Io.KnownBytes.{Appends, Keeps}
 use Rattle.agg_types.specs.Check.{config_faults}
 use Rattle.agg_types.specs.declared.config.Config.{Config}
@@ -22,7 +23,7 @@ use Rattle.replay.specs.Status.{status_of as ending_status}
 use Rattle.replay.specs.declared.ending.Ending.{Ending}
 use Rattle.program.specs.Checking.{checked_status, checked_text}
 use Rattle.program.specs.Faults.{IsTextOf, line_text}
-use Rattle.program.specs.Texts.{read_from}
+use Rattle.program.specs.Texts.{read_from, texts_from}
 use Rattle.program.specs.declared.fault.Fault.{Fault}
 use Rattle.program.specs.declared.prepared.Prepared.{Prepared}
 use Rattle.program.specs.declared.prepared.Prepared.TheVariants.{Ended, Collect}
@@ -113,19 +114,21 @@ abbrev pub Checks : Option (List ℕ) → Streams → Prepared → Type 0
 Checks input s prepared = IsChecked input s prepared ⊎ Breaks s prepared
 
 -- a configuration for the haproxy.cfg was printed on standard output
-pub record IsImported (input : Option (List ℕ)) (s : Streams) (prepared : Prepared) : Type 0 where
-  pub text : List ℕ
-  pub ended : prepared ≡ Ended 0
-  pub written : IfSome input (λ file. Reads text (imported file))
-  pub told : Prints s text
+pub record IsImported (me input : Option (List ℕ)) (s : Streams) (prepared : Prepared) : Type 0
+  where
+    pub text : List ℕ
+    pub ended : prepared ≡ Ended 0
+    pub written : IfSome input (λ file. Reads text (imported me file))
+    pub told : Prints s text
 
 -- there is none, which was printed on standard error
 pub record IsUnlike (s : Streams) (prepared : Prepared) : Type 0 where
   pub ended : prepared ≡ Ended 3
   pub told : Complains s (codes "the configuration can't be written\n")
 
-abbrev pub Imports : Option (List ℕ) → Streams → Prepared → Type 0
-Imports input s prepared = IsImported input s prepared ⊎ IsUnlike s prepared ⊎ Breaks s prepared
+abbrev pub Imports : (me input : Option (List ℕ)) → Streams → Prepared → Type 0
+Imports me input s prepared =
+    IsImported me input s prepared ⊎ IsUnlike s prepared ⊎ Breaks s prepared
 
 -- it is to be collected, or why not was printed
 abbrev pub Begins : Option (List ℕ) → Endpoints → Streams → Prepared → Type 0
@@ -133,11 +136,13 @@ Begins input endpoints s prepared =
     Collects input endpoints s prepared ⊎ IsFaulty input s prepared ⊎ Breaks s prepared
 
 -- a job is done, as far as it goes before there is anything to collect. A configuration is read
--- from the file that is named, or else from standard input
+-- from the file that is named, or else from standard input, and so is a haproxy.cfg from files
 abbrev pub Does : (holds : List ℕ → Option (List ℕ)) (input : Option (List ℕ)) → Job → Streams
     → Prepared → Type 0
 Does holds input Replay s prepared = Replays input s prepared
-Does holds input Import s prepared = Imports input s prepared
+Does holds input (Import name files) s prepared =
+    Imports (option_map (λ text. text.now) name)
+    (texts_from holds files.items input) s prepared
 Does holds input (Check config) s prepared = Checks (read_from holds config input) s prepared
 Does holds input (Listen config endpoints) s prepared =
     Begins (read_from holds config input) endpoints s prepared
@@ -184,7 +189,7 @@ StopsTelling Are input s = IsCut s ⊎ IsUnexplained Are input s
 abbrev pub Stops : (holds : List ℕ → Option (List ℕ)) (input : Option (List ℕ)) → Job → Streams
     → Type 0
 Stops holds input Replay s = IsCut s
-Stops holds input Import s = IsCut s
+Stops holds input (Import name files) s = IsCut s
 Stops holds input (Check config) s = StopsTelling AreFaults (read_from holds config input) s
 Stops holds input (Listen config endpoints) s =
     StopsTelling IsFirstAlone (read_from holds config input) s

@@ -16,6 +16,7 @@ mod fault;
 mod files;
 mod prepared;
 mod preparing;
+mod texts;
 mod words;
 
 pub use fault::{FAULT, Fault, Stuck, tell};

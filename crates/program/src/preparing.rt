@@ -1,6 +1,7 @@
 //! The words of a command line, and what they ask for.
 
 ghost use Rattle.std.specs.Prelude.{◌≡◌, ◌⊎◌, ℕ, List, Option, map, IfOk, IfSome, OnErr, OnOk};
+ghost use Rattle.std.specs.Option.{option_map};
 ghost use Rattle.std.specs.Io.KnownBytes.{Appends};
 ghost use Rattle.agg_config.specs.Faults.{AreFaults};
 ghost use Rattle.program.specs.Checking.{checked_text};
@@ -12,6 +13,7 @@ use crate::checking::{explained_faults, print_faults};
 use crate::fault::{FAULT, Fault, tell};
 use crate::files::{Files, read_text};
 use crate::prepared::{Asked, Prepared};
+use crate::texts::{Texts, read_texts};
 use agg_config::{LineCause, LineFault};
 use command_line::{Endpoints, Job, Usage};
 use haproxy_import::ImportFault;
@@ -87,10 +89,12 @@ fn do_job<F: Files, I: BufRead, O: Write, E: Write>(
 {
     match job {
         Job::Replay => Ok(run_replay(alloc, input, output)),
-        Job::Import => match read_text(alloc, files, None, input) {
-            Ok(text) => import(alloc, text.as_slice(), output, errors),
-            Err(error) => end(alloc, &Fault::Unread(error), errors),
-        },
+        Job::Import { name, files: names } => {
+            match read_texts(alloc, files, names.as_slice(), input) {
+                Ok(read) => import(alloc, name, &read, output, errors),
+                Err(error) => end(alloc, &Fault::Unread(error), errors),
+            }
+        }
         Job::Check { config } => match read_text(alloc, files, config, input) {
             Ok(text) => check(alloc, text.as_slice(), output, errors),
             Err(error) => end(alloc, &Fault::Unread(error), errors),
@@ -127,20 +131,23 @@ fn tell_usage<O: Write, E: Write>(
     Ok(Prepared::Ended(usage.status()))
 }
 
-// Prints a configuration for a haproxy.cfg.
+// Prints a configuration for a haproxy.cfg, for a collector whose name may be given.
 fn import<O: Write, E: Write>(
     alloc: Global,
-    text: &[u8],
+    name: Option<&str>,
+    read: &Texts<'_>,
     output: &mut O,
     errors: &mut E,
 ) -> io::Result<Prepared>
-    ensures done { (known : Option (List ℕ)) → IfSome known (λ bytes. text.now ≡ bytes)
-        → IfOk result (Imports known (streams (O.contents output.old) (O.contents output.new)
+    ensures done { (known : Option (List ℕ)) → IfSome known (λ bytes. read.now.text.items ≡ bytes)
+        → IfOk result (Imports (option_map (λ text. text.now) name.entry) known
+        (streams (O.contents output.old) (O.contents output.new)
         (E.contents errors.old) (E.contents errors.new))) }
     ensures cut { OnErr result (IsCut (streams (O.contents output.old) (O.contents output.new)
         (E.contents errors.old) (E.contents errors.new))) }
 {
-    match haproxy_import::import(alloc, text) {
+    let me = name.map(|text| text.as_bytes());
+    match haproxy_import::import(alloc, me, read.text.as_slice(), read.origins.as_slice()) {
         Ok(written) => {
             output.write_all(written.as_slice())?;
             output.flush()?;

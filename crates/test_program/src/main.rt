@@ -77,7 +77,7 @@ const HAPROXY: &[u8] = b"peers fleet\n peer lb1 10.1.0.1:10000\n peer agg 10.1.0
 backend clients\n stick-table type ip size 100k store http_req_rate(10s) peers fleet\n";
 
 /// Command lines with what stands on standard input.
-const RUNS: [(&[&[u8]], &[u8]); 21] = [
+const RUNS: [(&[&[u8]], &[u8]); 25] = [
     (&[b"--help"], b""),
     (&[b"--version"], b""),
     (&[], b""),
@@ -102,6 +102,19 @@ const RUNS: [(&[&[u8]], &[u8]); 21] = [
     (&[b"check", b"--config", b"missing.conf"], CONFIGURATION),
     (LISTEN_FILE, CONFIGURATION),
     (&[b"import"], HAPROXY),
+    (&[b"import", b"--name=lb1"], HAPROXY),
+    (
+        &[
+            b"import",
+            b"--name=agg",
+            b"peers.cfg",
+            b"tables.cfg",
+            b"again.cfg",
+        ],
+        b"",
+    ),
+    (&[b"import", b"peers.cfg", b"missing.cfg"], HAPROXY),
+    (&[b"check", b"sound.conf"], FAULTY),
 ];
 
 fn main(rt: HostRuntime) -> anyhow::Result<()> {

@@ -211,6 +211,14 @@ impl program::Files for Shelf {
             b"name agg\npeer lb1\n"
         } else if name == "faulty.conf" {
             b"name agg\npeer\npeer\n"
+        } else if name == "peers.cfg" {
+            b"peers mesh\n peer lb1 10.1.0.1:10000\n peer lb2 10.1.0.2:10000"
+        } else if name == "tables.cfg" {
+            b"# one table\nbackend a\n \
+                stick-table type ip size 1k expire 1m store gpc0,gpt0 peers mesh\n"
+        } else if name == "again.cfg" {
+            b"backend a\n stick-table type ip size 1k expire 1m store gpc0,gpt0 peers mesh\n \
+                stick-table type ip size 2k expire 1m store gpc0,gpt0 peers mesh\n"
         } else {
             return Err(io::Error::from(ErrorKind::NotFound));
         };

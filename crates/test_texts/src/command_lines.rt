@@ -80,12 +80,20 @@ fn print_usage(rt: &impl Print, usage: &Usage) -> anyhow::Result<()> {
 fn print_job(rt: &impl Print, job: &Job<'_>) -> anyhow::Result<()> {
     match job {
         Job::Replay => println!(rt; "replay")?,
-        Job::Import => println!(rt; "import")?,
+        Job::Import { name, files } => print_import(rt, *name, files.as_slice())?,
         Job::Check { config } => println!(rt; "check {}", config.unwrap_or("-"))?,
         Job::Listen { config, endpoints } => {
             print_endpoints(rt, endpoints)?;
             print_config(rt, *config)?;
         }
+    }
+    Ok(())
+}
+
+fn print_import(rt: &impl Print, name: Option<&str>, files: &[&str]) -> anyhow::Result<()> {
+    println!(rt; "import as {}", name.unwrap_or("the last peer"))?;
+    for file in files {
+        println!(rt; "of {file}")?;
     }
     Ok(())
 }

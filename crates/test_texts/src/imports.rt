@@ -22,8 +22,8 @@ pub fn print<W: Write>(alloc: Global, text: &[u8], out: &mut W) -> io::Result<()
 // Imports once more where an allocation failed: so what is printed is the same whichever allocation
 // fails.
 fn imported(alloc: Global, text: &[u8]) -> Result<Vec<u8>, ImportFault> {
-    match import(alloc, text) {
-        Err(ImportFault::NoMemory) => import(alloc, text),
+    match import(alloc, None, text, &[]) {
+        Err(ImportFault::NoMemory) => import(alloc, None, text, &[]),
         imported => imported,
     }
 }

@@ -9,9 +9,14 @@ replays : TakesReplay
 unfolding clap_on_literals
 replays self = record { taken = refl; named = refl; peers_is = refl; admin_is = refl }
 
-imports : TakesImport
+imports : (self name one other : List ℕ) → TakesImport self name one other
 unfolding clap_on_literals
-imports self = record { taken = refl; named = refl; peers_is = refl; admin_is = refl }
+imports self name one other = record {
+  alone = record { taken = refl; named = refl; peers_is = refl; admin_is = refl };
+  taken = refl;
+  name_is = refl;
+  both = refl;
+}
 
 joined : TakesJoined
 unfolding clap_on_literals
@@ -32,6 +37,8 @@ unfolding clap_on_literals
 files self file peers admin = record {
   alone = record { taken = refl; named = refl; peers_is = refl; admin_is = refl };
   checked = record { taken = refl; named = refl; file_is = refl };
+  named = refl;
+  named_is = refl;
   collected = record { taken = refl; named = refl; file_is = refl };
 }
 

@@ -1,4 +1,5 @@
-use Rattle.std.proofs.Common.{refl, inl, inr}
+use Rattle.std.proofs.Common.{rules, ℕ, List, option_map, refl, inl, inr}
+use Rattle.std.specs.Borrow.{Bor}
 use Rattle.std.proofs.KnownBytes.{Appends-kept, Keeps-refl}
 use Rattle.haproxy_import.specs.Found.{Reads, imported}
 use Rattle.program.proofs.Known.{of_known}
@@ -8,6 +9,8 @@ use Rattle.program.proofs.preparing.import.Goals as goal
 pub returns-in_ok-flush-in-Ok-clause-done : goal.returns-in_ok-flush-in-Ok-clause-done
 returns-in_ok-flush-in-Ok-clause-done g c = λ known read.
     let text = c.in-Ok.written.items in
+    let me = option_map (λ (name : Bor (List ℕ)). name.now) c.args.name in
+    let made : Reads text (imported me c.args.read.now.text.items) = search rules in
     let before = g.O.Write.contents c.args.output.now in
     let printed = g.O.Write.contents c.write_all.new.self in
     let after = g.O.Write.contents c.flush.new.self in
@@ -15,7 +18,8 @@ returns-in_ok-flush-in-Ok-clause-done g c = λ known read.
       text = text;
       ended = refl;
       written =
-          of_known known c.args.text.now (λ file. Reads text (imported file)) read c.in-Ok.ensures;
+          of_known known c.args.read.now.text.items (λ file. Reads text (imported me file)) read
+          made;
       told = (
         Appends-kept before printed after text
             (rw c.as_slice.ensures.value at c.in_ok-write_all-in-Ok.ensures.bytes)
