@@ -24,7 +24,7 @@ LEFT = {
     "crossing": {"parameters": 1},
     "fleet_core": {"contract": 1},
     "fleet_model": {"contract": 1},
-    "haproxy_import": {"body": 1, "columns": 1},
+    "haproxy_import": {"body": 1},
     "journal": {"body": 1},
     "hub": {"parameters": 1, "contract": 3, "body": 1},
     "listening": {"parameters": 1, "body": 1},

@@ -7,9 +7,9 @@ ghost use Rattle.command_line.specs.Lines.{TakesJoined, TakesNetworks, TakesRepl
 ghost use Rattle.command_line.specs.Lines.{TakesUnknownPeers};
 ghost use Rattle.command_line.specs.Networks.{first_bits, mapped};
 
-/// `replay`, `import` with `--name=` and files, and `listen` with `--peers=` and `--admin=` in either
-/// order, are taken for what they say, whatever the program is called and the texts are. So are
-/// each `--from=` and `--http-host=`, `--unknown-peers=` and `--http=` beside them,
+/// `replay`, `import` with `--name=` and files, and `listen` with `--peers=` and `--admin=` in
+/// either order, are taken for what they say, whatever the program is called and the texts are. So
+/// are each `--from=` and `--http-host=`, `--unknown-peers=` and `--http=` beside them,
 /// `--admin-socket=` with `--admin=` or without, `check` with a file or without, and `--config=`.
 pub fn shown_lines()
     ensures replay { TakesReplay }

@@ -7,8 +7,8 @@ use agg_types::{Col, NoMemory, Shape};
 use haproxy_cfg::{ms_of, value_of};
 
 /// The rule, before the tables.
-pub(crate) const RULE: &[u8] =
-    b"# A table has twice the size that it has in a proxy. A row stays here for its whole expire, at\n\
+pub(crate) const RULE: &[u8] = b"\
+# A table has twice the size that it has in a proxy. A row stays here for its whole expire, at\n\
 # most for keep, also where a full proxy has dropped it. So a size has to be at least a proxy's\n\
 # new keys a second times that in seconds. Where a table is full for a proxy, that proxy's new\n\
 # keys are dropped: raise the size here, or shorten expire there.\n";
