@@ -8,8 +8,9 @@ rows, which are then asked for in parts, with conditions and in order; figures g
 installed. Hostile clients drip a head, send heads and targets that are too long, bad methods, two lengths, two hosts
 and bytes that are no request; they ask for other hosts, pipeline, never read, stay silent, hold half requests beside
 `/healthz`, or come a thousand at once. The door's budget, its four answers at once and the health of a clock that
-stands still are tried too. It wants a built program. The last line counts passed and failed; the status is 1 where one
-failed. It takes about a minute and a half; `--quick` leaves out what waits.
+stands still are tried too, and that `--version` names the commit of a stamp. It wants a built program. The last line
+counts passed and failed; the status is 1 where one failed. It takes about a minute and a half; `--quick` leaves out
+what waits.
 """
 
 import argparse
@@ -534,6 +535,17 @@ def standstill(report, collector, port):
     report.check("it is well again", 3, lambda: differs(get(port, "/healthz")[2], b"ok\n"))
 
 
+def stamped(report, program):
+    """A program says from which commit it was proved, where a stamp beside it does."""
+    commit = "3a4082a6" * 5
+    with tempfile.TemporaryDirectory() as folder:
+        copy = shutil.copy(program, folder)
+        pathlib.Path(f"{copy}.stamp").write_text(f"program: 0\ncommit: {commit}\n")
+        said = subprocess.run([copy, "--version"], stdout=subprocess.PIPE, text=True, check=False).stdout
+    report.tell("--version names the commit of a stamp beside it",
+                "" if re.fullmatch(rf"aggregator \S+\ncommit {commit}\n", said) else repr(said))
+
+
 def main():
     words = argparse.ArgumentParser(description=__doc__, formatter_class=argparse.RawDescriptionHelpFormatter)
     words.add_argument("--collector", default=COLLECTOR, help="the program that is checked")
@@ -549,6 +561,7 @@ def main():
         config.flush()
         web = ["--http", f"127.0.0.1:{port}", "--http-host", "collector.example", "--http-host=dash"]
         collector = Collector(options.collector, peers, admin, config.name, options=web)
+    stamped(report, options.collector)
     sound(report, port)
     peer = push(peers)
     parts(report, port)

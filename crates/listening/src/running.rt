@@ -52,6 +52,30 @@ where
     Ok(run_words(rt, words, files, &mut input, &mut output, errors))
 }
 
+// Whether the words of a command line ask for the version: that was printed then.
+fn asks_version<S: AsStr>(words: &[S]) -> bool {
+    match words.get(1) {
+        None => false,
+        Some(word) => word.as_str() == "--version" || word.as_str() == "-V",
+    }
+}
+
+// Says behind the version from which commit the program was proved, where that is known.
+fn print_commit<S: AsStr, P: Paths, O: Write>(
+    words: &[S],
+    paths: &P,
+    output: &mut O,
+) -> io::Result<()> {
+    if !asks_version(words) {
+        return Ok(());
+    }
+    let Some(commit) = paths.commit() else {
+        return Ok(());
+    };
+    writeln!(output, "commit {}", commit.as_str())?;
+    output.flush()
+}
+
 /// Runs the program over the words of a command line and its streams, and answers the exit status.
 /// It collects over the threads, the clock and the sockets of `rt`. Where standard error takes
 /// nothing any more, it ends without the line that says why.
@@ -74,7 +98,10 @@ where
     E: Write,
 {
     match prepare(rt.alloc(), words, files, input, output, errors) {
-        Prepared::Ended(status) => status,
+        Prepared::Ended(status) => match print_commit(words, files, output) {
+            Ok(()) => status,
+            Err(_) => FAULT,
+        },
         Prepared::Collect(asked) => {
             let stopped = collect(rt, files, asked, output);
             if !stopped.is_heard {
