@@ -22,7 +22,7 @@ returns-in_ok-flush-in-Ok-clause-done g c = λ known read.
           made;
       told = (
         Appends-kept before printed after text
-            (rw c.as_slice.ensures.value at c.in_ok-write_all-in-Ok.ensures.bytes)
+            (rw c.as_slice-in-Ok.ensures.value at c.in_ok-write_all-in-Ok.ensures.bytes)
             c.flush.ensures.bytes,
         Keeps-refl (g.E.Write.contents c.args.errors.now),
       );
