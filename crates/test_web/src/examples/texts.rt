@@ -63,7 +63,7 @@ fn read_address(rt: &impl Print, alloc: Global, text: &[u8]) -> Result<()> {
 fn read_words(rt: &impl Print, alloc: Global, words: &[&str]) -> Result<()> {
     match command_line::read(alloc, words) {
         Ok(Job::Replay) => println!(rt; "words: replay")?,
-        Ok(Job::Import) => println!(rt; "words: import")?,
+        Ok(Job::Import { .. }) => println!(rt; "words: import")?,
         Ok(Job::Check { config }) => println!(rt; "words: check {}", config.unwrap_or("-"))?,
         Ok(Job::Listen { endpoints, .. }) => {
             let Endpoints { peers, admin, .. } = endpoints;
