@@ -2,7 +2,7 @@
 
 use agg_types::{KeyKind, Name};
 use anyhow::Result;
-use command_line::{Endpoints, Job};
+use command_line::{Endpoints, Job, Usage};
 use key_text::{append_key, read_key};
 use std::alloc::Global;
 use test_support::{TWO_PROXIES, config};
@@ -62,17 +62,31 @@ fn read_address(rt: &impl Print, alloc: Global, text: &[u8]) -> Result<()> {
 /// `command_line::read` answers the job that words ask for, or why they ask for none.
 fn read_words(rt: &impl Print, alloc: Global, words: &[&str]) -> Result<()> {
     match command_line::read(alloc, words) {
-        Ok(Job::Replay) => println!(rt; "words: replay")?,
-        Ok(Job::Import { .. }) => println!(rt; "words: import")?,
-        Ok(Job::Check { config }) => println!(rt; "words: check {}", config.unwrap_or("-"))?,
-        Ok(Job::Listen { endpoints, .. }) => {
-            let Endpoints { peers, admin, .. } = endpoints;
-            match admin {
-                None => println!(rt; "words: listen to {peers}")?,
-                Some(admin) => println!(rt; "words: listen to {peers} and {admin}")?,
-            }
-        }
-        Err(usage) => println!(rt; "words: status {}", usage.status())?,
+        Ok(job) => print_job(rt, &job),
+        Err(usage) => print_usage(rt, &usage),
+    }
+}
+
+fn print_usage(rt: &impl Print, usage: &Usage) -> Result<()> {
+    println!(rt; "words: status {}", usage.status())?;
+    Ok(())
+}
+
+fn print_job(rt: &impl Print, job: &Job<'_>) -> Result<()> {
+    match job {
+        Job::Replay => println!(rt; "words: replay")?,
+        Job::Import { .. } => println!(rt; "words: import")?,
+        Job::Check { config } => println!(rt; "words: check {}", config.unwrap_or("-"))?,
+        Job::Listen { endpoints, .. } => print_endpoints(rt, endpoints)?,
+    }
+    Ok(())
+}
+
+fn print_endpoints(rt: &impl Print, endpoints: &Endpoints) -> Result<()> {
+    let peers = &endpoints.peers;
+    match &endpoints.admin {
+        None => println!(rt; "words: listen to {peers}")?,
+        Some(admin) => println!(rt; "words: listen to {peers} and {admin}")?,
     }
     Ok(())
 }
